@@ -1,0 +1,5 @@
+-- What small policies and small scripts are, and what they mean.
+pub mod Spelling
+pub mod Tokens
+pub mod Document
+pub mod Sound
