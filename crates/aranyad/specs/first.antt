@@ -3,3 +3,9 @@ pub mod Spelling
 pub mod Tokens
 pub mod Document
 pub mod Sound
+pub mod Script
+pub mod Facts
+pub mod Payload
+pub mod Meaning
+pub mod Acting
+pub mod Running

@@ -1,6 +1,5 @@
 -- Which documents are small policies.
 use Rattle.std.specs.Prelude.{◌≡◌, List, [], ◌∷◌, ◌++◌, ℕ, codes, IsTrue, Option, Some, MatchOption}
-use Rattle.std.specs.Str.{IsUtf8}
 use Rattle.std.specs.Str.Lines.{lines}
 use Rattle.aranyad.specs.declared.first.policy.SmallPolicy.{SmallPolicy}
 use Rattle.aranyad.specs.first.Spelling.{spelling}
@@ -17,7 +16,6 @@ closing_line = codes "```"
 
 -- a document whose tokens, between the opening lines and the closing one, spell the policy's items, which are well typed
 pub record IsSmall (document : List ℕ) (policy : SmallPolicy) : Type 0 where
-  pub text : IsUtf8 document
   pub body : List (List ℕ)
   pub framed : lines document ≡ opening_lines ++ body ++ closing_line ∷ []
   pub spelled : lines_tokens body ≡ Some (spelling policy.items)
