@@ -1,6 +1,9 @@
 //! `aranyad`: replicas of a command graph under a policy, in one process.
 #![tactic(auto)]
 
-mod first;
+mod choose;
+mod mode;
+mod status;
+mod written;
 
 fn main() {}

@@ -1,2 +1,0 @@
-//! Small policies and small scripts: what they are, how they are read, and how they run.
-pub mod policy;
