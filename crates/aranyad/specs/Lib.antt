@@ -1,0 +1,5 @@
+-- The definitions that the contracts of this crate cite.
+pub mod first
+pub mod Modes
+pub mod Outcome
+pub mod Written

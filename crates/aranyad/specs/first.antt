@@ -1,0 +1,11 @@
+-- What small policies and small scripts are, and what they mean.
+pub mod Spelling
+pub mod Tokens
+pub mod Document
+pub mod Sound
+pub mod Script
+pub mod Facts
+pub mod Payload
+pub mod Meaning
+pub mod Acting
+pub mod Running

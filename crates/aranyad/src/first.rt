@@ -1,0 +1,2 @@
+//! Small policies and small scripts: what they are, how they are read, and how they run.
+pub mod policy;

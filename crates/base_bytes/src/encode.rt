@@ -1,0 +1,62 @@
+ghost use Rattle.std.specs.Prelude.{◌≡◌, ◌++◌, ◌<◌, ◌^◌, length, take, IsTrue, OnOk, OnErr};
+ghost use Rattle.base_bytes.specs.Payload.{counted, spelling, spelling_all, is_short, are_short};
+
+use crate::{Bytes, NoMemory, Value};
+
+/// Appends the payload spelling of the value. Without memory the bytes stay as they were.
+pub fn encode_value(value: &Value, into: &mut Bytes) -> Result<(), NoMemory>
+    requires { IsTrue (is_short value.now) }
+    ensures ok { OnOk result (into.new ≡ into.old ++ spelling value.now) }
+    ensures err { OnErr result (into.new ≡ into.old) }
+{
+    let before = into.len();
+    let done = append_value(value, into);
+    if done.is_err() {
+        into.truncate(before);
+    }
+    done
+}
+
+// Without memory the bytes still begin with the old ones, and so do those of the functions below.
+#[cycle(encode)]
+fn append_value(value: &Value, into: &mut Bytes) -> Result<(), NoMemory>
+    requires { IsTrue (is_short value.now) }
+    ensures ok { OnOk result (into.new ≡ into.old ++ spelling value.now) }
+    ensures err { OnErr result (take (length into.old) into.new ≡ into.old) }
+{
+    match value {
+        Value::Int(number) => into.extend(&number.to_be_bytes()),
+        Value::Bool(truth) => into.push(if *truth { 1 } else { 0 }),
+        Value::Str(text) => append_counted(text.as_slice(), into),
+        Value::Raw(bytes) => append_counted(bytes.as_slice(), into),
+        Value::Ident(id) => into.extend(id.as_slice()),
+        Value::Enum(_, ordinal) => into.extend(&ordinal.to_be_bytes()),
+        Value::Struct(_, fields) => append_values(fields.as_slice(), into),
+        Value::Nothing => into.push(0),
+        Value::Some(inner) => {
+            into.push(1)?;
+            append_value(inner.get(), into)
+        }
+    }
+}
+
+#[cycle(encode)]
+fn append_values(values: &[Value], into: &mut Bytes) -> Result<(), NoMemory>
+    requires { IsTrue (are_short values.now) }
+    ensures ok { OnOk result (into.new ≡ into.old ++ spelling_all values.now) }
+    ensures err { OnErr result (take (length into.old) into.new ≡ into.old) }
+{
+    for value in values {
+        append_value(value, into)?;
+    }
+    Ok(())
+}
+
+fn append_counted(bytes: &[u8], into: &mut Bytes) -> Result<(), NoMemory>
+    requires { length bytes.now < 2 ^ 32 }
+    ensures ok { OnOk result (into.new ≡ into.old ++ counted bytes.now) }
+    ensures err { OnErr result (take (length into.old) into.new ≡ into.old) }
+{
+    into.extend(&(bytes.len() as u32).to_be_bytes())?;
+    into.extend(bytes)
+}

@@ -1,0 +1,165 @@
+// A disk in memory, some of whose calls fail as planned.
+ghost use Rattle.std.specs.Prelude.{◌≡◌, ◌↔◌, ◌≤◌, true, length, IsErr, IfOk, OnOk, OnErr};
+ghost use Rattle.outside.specs.declared.faults.DiskStep.{DiskStep};
+ghost use Rattle.outside.specs.Causes.{HasCause};
+ghost use Rattle.outside.specs.Disk.{ReadsAt, overwritten, after_write, step_after};
+ghost use Rattle.outside.specs.MemoryDisk.{disk_content, disk_last_step, disk_plan};
+ghost use Rattle.outside.specs.Plan.{IsDue, plan_at_start, plan_after};
+
+use crate::schedule::Schedule;
+use crate::{Disk, DiskStep, Failed};
+use base_bytes::{Bytes, NoMemory};
+use std::alloc::Global;
+
+/// A disk that keeps its bytes in memory. A call fails as planned, and a write also where the bytes find no room.
+#[derive(Drop)]
+pub struct MemoryDisk {
+    alloc: Global,
+    bytes: Bytes,
+    last_step: Option<DiskStep>,
+    schedule: Schedule,
+}
+
+impl MemoryDisk {
+    /// A disk of these bytes, of which the calls with these numbers, from 1, are to fail. Takes no memory.
+    pub fn new(alloc: Global, bytes: Bytes, failing: Vec<u64>) -> MemoryDisk
+        ensures content { (disk_content result).reads ≡ bytes }
+        ensures step { disk_last_step result ≡ None }
+        ensures plan { disk_plan result ≡ plan_at_start failing.items }
+    {
+        MemoryDisk {
+            alloc,
+            bytes,
+            last_step: None,
+            schedule: Schedule::new(failing),
+        }
+    }
+
+    /// What a read of the whole disk gives.
+    pub fn bytes(&self) -> &[u8]
+        ensures { result.now ≡ (disk_content self.now).reads }
+    {
+        self.bytes.as_slice()
+    }
+}
+
+// Fills the slice from this place on, and answers how much of it.
+fn fill(bytes: &[u8], at: u64, into: &mut [u8]) -> usize
+    ensures { ReadsAt bytes.now at result into.old into.new }
+{
+    if at >= bytes.len() as u64 {
+        return 0;
+    }
+    let rest = &bytes[at as usize..];
+    let count = rest.len().min(into.len());
+    into[..count].copy_from_slice(&rest[..count]);
+    count
+}
+
+// The bytes with the piece written over them.
+fn overwrite(alloc: Global, bytes: &[u8], at: usize, piece: &[u8]) -> Result<Bytes, NoMemory>
+    requires { at ≤ length bytes.now }
+    ensures { IfOk result (λ all. all ≡ overwritten bytes.now at piece.now) }
+{
+    let mut all = Bytes::from_slice(alloc, &bytes[..at])?;
+    all.extend(piece)?;
+    if piece.len() < bytes.len() - at {
+        all.extend(&bytes[at + piece.len()..])?;
+    }
+    Ok(all)
+}
+
+impl Disk for MemoryDisk {
+    ghost tells = { true };
+
+    ghost content = { disk_content };
+
+    ghost faults = { λ disk. (disk_plan disk).faults };
+
+    ghost last_step = { disk_last_step };
+
+    ghost faults_fit = { λ disk. disk.schedule.faults.fits };
+
+    fn len(&mut self) -> Result<u64, Failed>
+        ensures len { IfOk result (λ n. n ≡ length (disk_content self.old).reads) }
+        ensures content { disk_content self.new ≡ disk_content self.old }
+        ensures step { disk_last_step self.new ≡ step_after result DiskStep.Read (disk_last_step self.old) }
+        ensures cause { HasCause (disk_plan self.old).faults (disk_plan self.new).faults result }
+
+        // It fails exactly at the planned calls.
+        ensures due { IsErr result ↔ IsDue (disk_plan self.old) }
+        ensures plan { disk_plan self.new ≡ plan_after result (disk_plan self.old) }
+    {
+        if self.schedule.begin() {
+            self.schedule.fail();
+            self.last_step = Some(DiskStep::Read);
+            return Err(Failed);
+        }
+        Ok(self.bytes.len() as u64)
+    }
+
+    fn read_at(&mut self, at: u64, into: &mut [u8]) -> Result<usize, Failed>
+        ensures bytes { IfOk result (λ n. ReadsAt (disk_content self.old).reads at n into.old into.new) }
+        ensures content { disk_content self.new ≡ disk_content self.old }
+        ensures step { disk_last_step self.new ≡ step_after result DiskStep.Read (disk_last_step self.old) }
+        ensures cause { HasCause (disk_plan self.old).faults (disk_plan self.new).faults result }
+
+        // It fails exactly at the planned calls, and leaves the slice then.
+        ensures due { IsErr result ↔ IsDue (disk_plan self.old) }
+        ensures slice { OnErr result (into.new ≡ into.old) }
+        ensures plan { disk_plan self.new ≡ plan_after result (disk_plan self.old) }
+    {
+        if self.schedule.begin() {
+            self.schedule.fail();
+            self.last_step = Some(DiskStep::Read);
+            return Err(Failed);
+        }
+        Ok(fill(self.bytes.as_slice(), at, into))
+    }
+
+    fn write_at(&mut self, at: u64, piece: &[u8]) -> Result<(), Failed>
+        requires { at ≤ length (disk_content self.old).reads }
+        ensures written { OnOk result (disk_content self.new ≡ after_write at piece.now (disk_content self.old)) }
+        ensures step { disk_last_step self.new ≡ step_after result DiskStep.Write (disk_last_step self.old) }
+        ensures cause { HasCause (disk_plan self.old).faults (disk_plan self.new).faults result }
+
+        // It fails at the planned calls, beside these only for want of room, and writes nothing then.
+        ensures due { IsDue (disk_plan self.old) → IsErr result }
+        ensures same { OnErr result (disk_content self.new ≡ disk_content self.old) }
+        ensures plan { disk_plan self.new ≡ plan_after result (disk_plan self.old) }
+    {
+        if self.schedule.begin() {
+            self.schedule.fail();
+            self.last_step = Some(DiskStep::Write);
+            return Err(Failed);
+        }
+        match overwrite(self.alloc, self.bytes.as_slice(), at as usize, piece) {
+            Ok(bytes) => {
+                self.bytes = bytes;
+                Ok(())
+            }
+            Err(_) => {
+                self.schedule.fail();
+                self.last_step = Some(DiskStep::Write);
+                Err(Failed)
+            }
+        }
+    }
+
+    fn sync(&mut self) -> Result<(), Failed>
+        ensures content { disk_content self.new ≡ disk_content self.old }
+        ensures step { disk_last_step self.new ≡ step_after result DiskStep.Sync (disk_last_step self.old) }
+        ensures cause { HasCause (disk_plan self.old).faults (disk_plan self.new).faults result }
+
+        // It fails exactly at the planned calls.
+        ensures due { IsErr result ↔ IsDue (disk_plan self.old) }
+        ensures plan { disk_plan self.new ≡ plan_after result (disk_plan self.old) }
+    {
+        if self.schedule.begin() {
+            self.schedule.fail();
+            self.last_step = Some(DiskStep::Sync);
+            return Err(Failed);
+        }
+        Ok(())
+    }
+}
