@@ -1,4 +1,5 @@
 -- The definitions that the contracts of this crate cite.
+pub mod first
 pub mod Modes
 pub mod Status
 pub mod Written

@@ -2,6 +2,7 @@
 #![tactic(auto)]
 
 mod choose;
+mod first;
 mod mode;
 mod status;
 mod written;

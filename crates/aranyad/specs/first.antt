@@ -1,0 +1,8 @@
+-- What small policies and small scripts are, and what they mean.
+pub mod Spelling
+pub mod Tokens
+pub mod Document
+pub mod Sound
+pub mod Script
+pub mod Facts
+pub mod Payload

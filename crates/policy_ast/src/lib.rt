@@ -1,0 +1,29 @@
+//! Tokens of the policy language, and the trees that its items, statements and expressions are read into.
+#![tactic(auto)]
+
+mod bind;
+mod expr;
+mod field;
+mod finish;
+mod item;
+mod literal;
+mod name;
+mod policy;
+mod statement;
+pub mod symbols;
+mod token;
+mod variants;
+
+pub use bind::{Bind, Free, Pattern};
+pub use expr::{
+    Arithmetic, Comparison, Count, ElseExpr, Expr, ExprBlock, IfExpr, Let, Presence, Unary,
+};
+pub use field::{EffectField, Field, FieldType};
+pub use finish::FinishStmt;
+pub use item::{Attribute, Item, Section};
+pub use literal::{Literal, PatternLiteral};
+pub use name::Name;
+pub use policy::Policy;
+pub use statement::{Arm, ArmPattern, Else, IfStmt, Stmt};
+pub use token::{Token, TokenKind};
+pub use variants::VariantNames;
