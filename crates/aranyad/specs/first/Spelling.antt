@@ -1,9 +1,10 @@
 -- How a small policy is spelled: the tokens of each item, in the order of the grammar.
-use Rattle.std.specs.Prelude.{ℕ, ℤ, List, [], ◌∷◌, ◌++◌, Option, Some, None, codes, String}
+use Rattle.std.specs.Prelude.{ℕ, ℤ, List, [], ◌∷◌, ◌++◌, Option, Some, None, codes}
+use Prim.Native.String.{String}
 use Rattle.std.specs.List.{flat_map, join_by}
 use Rattle.policy_ast.specs.declared.token.TokenKind.{TokenKind}
 use Rattle.policy_ast.specs.declared.token.TokenKind.TheVariants.{Word, Number, Symbol}
-use Rattle.policy_ast.specs.declared.TheConstants.{OPEN_BRACE, CLOSE_BRACE, OPEN_BRACKET, CLOSE_BRACKET, OPEN_PAREN, CLOSE_PAREN, COMMA, COLON, PATH, DOT, EQUALS, ARROW, GREATER}
+use Rattle.policy_ast.specs.declared.symbols.TheConstants.{OPEN_BRACE, CLOSE_BRACE, OPEN_BRACKET, CLOSE_BRACKET, OPEN_PAREN, CLOSE_PAREN, COMMA, COLON, PATH, DOT, EQUALS, ARROW, GREATER}
 use Rattle.aranyad.specs.declared.first.policy.Item.{Item}
 use Rattle.aranyad.specs.declared.first.policy.Item.TheVariants as item
 use Rattle.aranyad.specs.declared.first.policy.Fact.{Fact}

@@ -7,8 +7,9 @@ use Rattle.std.specs.Str.{byte}
 use Rattle.std.specs.Str.Parse.{digits_value}
 use Rattle.policy_ast.specs.declared.token.TokenKind.{TokenKind}
 use Rattle.policy_ast.specs.declared.token.TokenKind.TheVariants.{Word, Number, Symbol}
-use Rattle.policy_ast.specs.declared.TheConstants.{OPEN_BRACE, CLOSE_BRACE, OPEN_BRACKET, CLOSE_BRACKET, OPEN_PAREN, CLOSE_PAREN, COMMA, COLON, PATH, DOT, EQUALS, ARROW, GREATER}
-use Rattle.policy_ast.specs.Words.{is_letter, is_digit, is_word_byte}
+use Rattle.policy_ast.specs.declared.symbols.TheConstants.{OPEN_BRACE, CLOSE_BRACE, OPEN_BRACKET, CLOSE_BRACKET, OPEN_PAREN, CLOSE_PAREN, COMMA, COLON, PATH, DOT, EQUALS, ARROW, GREATER}
+use Rattle.policy_ast.specs.Words.{is_word_byte}
+use Rattle.std.specs.Char.{is_ascii_alphabetic, is_ascii_digit}
 
 -- spaces and tabs part tokens
 abbrev pub is_blank : ℕ → Bool
@@ -25,13 +26,13 @@ word_at bytes = let text = take_while is_word_byte bytes in if nat_le (length te
 -- the number without a sign that bytes begin with
 abbrev pub natural_at : List ℕ → Option Piece
 natural_at bytes =
-    let digits = take_while is_digit bytes in
+    let digits = take_while is_ascii_digit bytes in
     if nat_lt (digits_value 10 digits) (2 ^ 63) then Some (Number (pos (digits_value 10 digits)), drop (length digits) bytes) else None
 
 -- the number whose digits follow a minus sign; a sign with no digit behind it begins no token
 abbrev pub negative_at : List ℕ → Option Piece
 negative_at bytes =
-    let digits = take_while is_digit bytes in
+    let digits = take_while is_ascii_digit bytes in
     if length digits == 0 then None
     else if nat_le (digits_value 10 digits) (2 ^ 63) then Some (Number (neg_ℤ (pos (digits_value 10 digits))), drop (length digits) bytes)
     else None
@@ -59,8 +60,8 @@ symbol_piece behind found = (Symbol found.0, if found.1 then drop 1 behind else 
 abbrev pub piece_at : List ℕ → Option Piece
 piece_at [] = None
 piece_at (c ∷ behind) =
-    if is_letter c then word_at (c ∷ behind)
-    else if is_digit c then natural_at (c ∷ behind)
+    if is_ascii_alphabetic c then word_at (c ∷ behind)
+    else if is_ascii_digit c then natural_at (c ∷ behind)
     else if c == byte "-" then negative_at behind
     else option_map (symbol_piece behind) (symbol_of c (slice_index behind 0))
 
