@@ -54,9 +54,9 @@ line_passed found line rest front behind text i so_far at stripped is_front is_b
     ap (λ ls. ls ++ lines behind) (map-append (λ l. l.now) found (line ∷ []))
     ∙ append_assoc (map (λ l. l.now) found) (line.now ∷ []) (lines behind)
     ∙ ap (λ ls. map (λ l. l.now) found ++ ls)
-        (ap (λ x. x ∷ lines behind) (stripped ∙ ap strip_carriage_return is_front)
-        ∙ ap (λ b. strip_carriage_return (take i rest) ∷ lines b) is_behind
-        ∙ sym (lines_first rest i at))
+    (ap (λ x. x ∷ lines behind) (stripped ∙ ap strip_carriage_return is_front)
+    ∙ ap (λ b. strip_carriage_return (take i rest) ∷ lines b) is_behind
+    ∙ sym (lines_first rest i at))
     ∙ so_far
 
 -- the last line, behind which there is none

@@ -6,3 +6,6 @@ pub mod Sound
 pub mod Script
 pub mod Facts
 pub mod Payload
+pub mod Meaning
+pub mod Acting
+pub mod Running

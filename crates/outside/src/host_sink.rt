@@ -43,7 +43,8 @@ impl<W: Write + Drop> Sink for HostSink<W> {
         ensures faults { host_sink_faults self.new ≡ faults_after result (host_sink_faults self.old) }
 
         // A writer that tells what it holds gains exactly the bytes that were taken.
-        ensures passes { WriteAppends (W.contents (host_sink_writer self.old)) (W.contents (host_sink_writer self.new)) result piece.now }
+        ensures passes { WriteAppends (W.contents (host_sink_writer self.old))
+            (W.contents (host_sink_writer self.new)) result piece.now }
     {
         match self.writer.write(piece) {
             Ok(count) if count > 0 => Ok(count),

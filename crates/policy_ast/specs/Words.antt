@@ -4,13 +4,13 @@ use Rattle.std.specs.List.{list_all, list_any}
 use Rattle.std.specs.Str.{bytes_eq}
 
 -- a letter, a digit or `_`
-abbrev pub continues_word : ℕ → Bool
-continues_word byte = is_ascii_alphanumeric byte || byte == 95
+abbrev pub is_word_byte : ℕ → Bool
+is_word_byte byte = is_ascii_alphanumeric byte || byte == 95
 
 -- a letter, then letters, digits and `_`, all of ASCII: at most 64 bytes
 abbrev pub is_word : List ℕ → Bool
 is_word [] = false
-is_word (first ∷ rest) = is_ascii_alphabetic first && (nat_lt (length rest) 64 && list_all continues_word rest)
+is_word (first ∷ rest) = is_ascii_alphabetic first && (nat_lt (length rest) 64 && list_all is_word_byte rest)
 
 -- the words that the grammar keeps for itself
 abbrev pub reserved_words : List (List ℕ)

@@ -1,7 +1,7 @@
 ghost use Rattle.std.specs.Prelude.{◌≡◌, ◌↔◌, IfOk, IfSome, IsSome, IsTrue};
 ghost use Rattle.std.specs.List.{list_all, list_any};
 ghost use Rattle.std.specs.Str.{bytes_eq};
-ghost use Rattle.policy_ast.specs.Words.{continues_word, is_name, is_reserved, is_word};
+ghost use Rattle.policy_ast.specs.Words.{is_word_byte, is_name, is_reserved, is_word};
 
 use base_bytes::{NoMemory, Text};
 use std::alloc::Global;
@@ -136,13 +136,15 @@ fn is_word(text: &[u8]) -> bool
     ensures { result ≡ is_word text.now }
 {
     match text {
-        [first, rest @ ..] => first.is_ascii_alphabetic() && rest.len() < 64 && continue_word(rest),
+        [first, rest @ ..] => first.is_ascii_alphabetic()
+            && rest.len() < 64
+            && are_word_bytes(rest),
         [] => false,
     }
 }
 
-fn continue_word(bytes: &[u8]) -> bool
-    ensures { result ≡ list_all continues_word bytes.now }
+fn are_word_bytes(bytes: &[u8]) -> bool
+    ensures { result ≡ list_all is_word_byte bytes.now }
 {
     bytes
         .iter()

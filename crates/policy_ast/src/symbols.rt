@@ -17,13 +17,13 @@ pub const COMMA: u8 = 6;
 /// `:`
 pub const COLON: u8 = 7;
 /// `::`
-pub const DOUBLE_COLON: u8 = 8;
+pub const PATH: u8 = 8;
 /// `.`
 pub const DOT: u8 = 9;
 /// `?`
 pub const QUESTION_MARK: u8 = 10;
 /// `=`
-pub const EQUALS_SIGN: u8 = 11;
+pub const EQUALS: u8 = 11;
 /// `=>`
 pub const ARROW: u8 = 12;
 /// `==`

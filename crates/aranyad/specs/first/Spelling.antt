@@ -4,7 +4,7 @@ use Prim.Native.String.{String}
 use Rattle.std.specs.List.{flat_map, join_by}
 use Rattle.policy_ast.specs.declared.token.TokenKind.{TokenKind}
 use Rattle.policy_ast.specs.declared.token.TokenKind.TheVariants.{Word, Number, Symbol}
-use Rattle.policy_ast.specs.declared.symbols.TheConstants.{OPEN_BRACE, CLOSE_BRACE, OPEN_BRACKET, CLOSE_BRACKET, OPEN_PAREN, CLOSE_PAREN, COMMA, COLON, DOUBLE_COLON, DOT, EQUALS_SIGN, ARROW, GREATER}
+use Rattle.policy_ast.specs.declared.symbols.TheConstants.{OPEN_BRACE, CLOSE_BRACE, OPEN_BRACKET, CLOSE_BRACKET, OPEN_PAREN, CLOSE_PAREN, COMMA, COLON, PATH, DOT, EQUALS, ARROW, GREATER}
 use Rattle.aranyad.specs.declared.first.policy.Item.{Item}
 use Rattle.aranyad.specs.declared.first.policy.Item.TheVariants as item
 use Rattle.aranyad.specs.declared.first.policy.Fact.{Fact}
@@ -49,10 +49,10 @@ effect_spelling e = word "effect" ∷ Word e.name ∷ fields_spelling e.fields
 -- `seal { return envelope::do_seal(serialize(this)) } open { return deserialize(envelope::do_open(envelope)) }`
 abbrev pub envelope_spelling : Tokens
 envelope_spelling =
-    word "seal" ∷ Symbol OPEN_BRACE ∷ word "return" ∷ word "envelope" ∷ Symbol DOUBLE_COLON ∷ word "do_seal" ∷ Symbol OPEN_PAREN
+    word "seal" ∷ Symbol OPEN_BRACE ∷ word "return" ∷ word "envelope" ∷ Symbol PATH ∷ word "do_seal" ∷ Symbol OPEN_PAREN
     ∷ word "serialize" ∷ Symbol OPEN_PAREN ∷ word "this" ∷ Symbol CLOSE_PAREN ∷ Symbol CLOSE_PAREN ∷ Symbol CLOSE_BRACE
     ∷ word "open" ∷ Symbol OPEN_BRACE ∷ word "return" ∷ word "deserialize" ∷ Symbol OPEN_PAREN
-    ∷ word "envelope" ∷ Symbol DOUBLE_COLON ∷ word "do_open" ∷ Symbol OPEN_PAREN ∷ word "envelope" ∷ Symbol CLOSE_PAREN
+    ∷ word "envelope" ∷ Symbol PATH ∷ word "do_open" ∷ Symbol OPEN_PAREN ∷ word "envelope" ∷ Symbol CLOSE_PAREN
     ∷ Symbol CLOSE_PAREN ∷ Symbol CLOSE_BRACE ∷ []
 
 -- `command name { attributes { init: true } fields { } seal .. open .. policy { finish { } } }`
@@ -97,7 +97,7 @@ basic_spelling b =
     (word "command" ∷ Word b.name ∷ Symbol OPEN_BRACE ∷ word "fields" ∷ fields_spelling b.fields)
     ++ envelope_spelling
     ++ (word "policy" ∷ Symbol OPEN_BRACE ∷ flat_map check_spelling b.checks)
-    ++ (word "let" ∷ Word b.author ∷ Symbol EQUALS_SIGN ∷ word "envelope" ∷ Symbol DOUBLE_COLON ∷ word "author_id" ∷ Symbol OPEN_PAREN ∷ word "envelope" ∷ Symbol CLOSE_PAREN
+    ++ (word "let" ∷ Word b.author ∷ Symbol EQUALS ∷ word "envelope" ∷ Symbol PATH ∷ word "author_id" ∷ Symbol OPEN_PAREN ∷ word "envelope" ∷ Symbol CLOSE_PAREN
     ∷ word "finish" ∷ Symbol OPEN_BRACE ∷ [])
     ++ created_spelling b.created
     ++ emitted_spelling b.emitted

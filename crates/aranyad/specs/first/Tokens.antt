@@ -3,13 +3,13 @@
 -- of range) has none, since no small policy has such a piece.
 use Rattle.std.specs.Prelude.{ℕ, ℤ, pos, neg_ℤ, ◌^◌, ◌==◌, ◌||◌, nat_lt, nat_le, Bool, true, false, if◌then◌else◌, List, [], ◌∷◌, ◌++◌, length, drop, slice_index, Option, Some, None, option_map, option_and_then, suc, zero}
 use Rattle.std.specs.List.{take_while}
-use Rattle.std.specs.Char.{is_ascii_alphabetic, is_ascii_digit}
 use Rattle.std.specs.Str.{byte}
 use Rattle.std.specs.Str.Parse.{digits_value}
 use Rattle.policy_ast.specs.declared.token.TokenKind.{TokenKind}
 use Rattle.policy_ast.specs.declared.token.TokenKind.TheVariants.{Word, Number, Symbol}
-use Rattle.policy_ast.specs.declared.symbols.TheConstants.{OPEN_BRACE, CLOSE_BRACE, OPEN_BRACKET, CLOSE_BRACKET, OPEN_PAREN, CLOSE_PAREN, COMMA, COLON, DOUBLE_COLON, DOT, EQUALS_SIGN, ARROW, GREATER}
-use Rattle.policy_ast.specs.Words.{continues_word}
+use Rattle.policy_ast.specs.declared.symbols.TheConstants.{OPEN_BRACE, CLOSE_BRACE, OPEN_BRACKET, CLOSE_BRACKET, OPEN_PAREN, CLOSE_PAREN, COMMA, COLON, PATH, DOT, EQUALS, ARROW, GREATER}
+use Rattle.policy_ast.specs.Words.{is_word_byte}
+use Rattle.std.specs.Char.{is_ascii_alphabetic, is_ascii_digit}
 
 -- spaces and tabs part tokens
 abbrev pub is_blank : ℕ → Bool
@@ -21,7 +21,7 @@ Piece = TokenKind × List ℕ
 
 -- the word that bytes begin with
 abbrev pub word_at : List ℕ → Option Piece
-word_at bytes = let text = take_while continues_word bytes in if nat_le (length text) 64 then Some (Word text, drop (length text) bytes) else None
+word_at bytes = let text = take_while is_word_byte bytes in if nat_le (length text) 64 then Some (Word text, drop (length text) bytes) else None
 
 -- the number without a sign that bytes begin with
 abbrev pub natural_at : List ℕ → Option Piece
@@ -48,8 +48,8 @@ symbol_of c next =
     else if c == byte ")" then Some (CLOSE_PAREN, false)
     else if c == byte "," then Some (COMMA, false)
     else if c == byte "." then Some (DOT, false)
-    else if c == byte ":" then Some (if next == byte ":" then (DOUBLE_COLON, true) else (COLON, false))
-    else if c == byte "=" then (if next == byte ">" then Some (ARROW, true) else if next == byte "=" then None else Some (EQUALS_SIGN, false))
+    else if c == byte ":" then Some (if next == byte ":" then (PATH, true) else (COLON, false))
+    else if c == byte "=" then (if next == byte ">" then Some (ARROW, true) else if next == byte "=" then None else Some (EQUALS, false))
     else if c == byte ">" then (if next == byte "=" then None else Some (GREATER, false))
     else None
 

@@ -9,7 +9,11 @@ use std::alloc::Global;
 fn without_carriage_return(line: &[u8]) -> &[u8]
     ensures { result.now ≡ strip_carriage_return line.now }
 {
-    if line.last() == Some(&b'\r') { &line[..line.len() - 1] } else { line }
+    if line.last() == Some(&b'\r') {
+        &line[..line.len() - 1]
+    } else {
+        line
+    }
 }
 
 /// The place of the first line feed.
