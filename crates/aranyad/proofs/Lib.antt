@@ -1,3 +1,4 @@
 -- Lemmas that the proofs of this crate share.
 pub mod Pieces
 pub mod Lines
+pub mod Parts

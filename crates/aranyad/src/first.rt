@@ -1,5 +1,8 @@
 //! Small policies and small scripts: what they are, how they are read, and how they run.
 pub mod facts;
 pub mod lines;
+pub mod payload;
 pub mod policy;
+pub mod rows;
 pub mod script;
+pub mod values;
