@@ -1,4 +1,5 @@
 -- Lemmas that the proofs of this crate share.
+pub mod Lexing
 pub mod Pieces
 pub mod Lines
 pub mod Parts

@@ -1,5 +1,6 @@
 //! Small policies and small scripts: what they are, how they are read, and how they run.
 pub mod facts;
+mod lexer;
 pub mod lines;
 pub mod payload;
 pub mod policy;

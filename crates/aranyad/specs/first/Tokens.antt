@@ -57,7 +57,7 @@ abbrev pub symbol_piece : List ℕ → ℕ × Bool → Piece
 symbol_piece behind found = (Symbol found.0, if found.1 then drop 1 behind else behind)
 
 -- the token that bytes begin with, the longest one
-abbrev pub piece_at : List ℕ → Option Piece
+unfoldable pub piece_at : List ℕ → Option Piece
 piece_at [] = None
 piece_at (c ∷ behind) =
     if is_ascii_alphabetic c then word_at (c ∷ behind)
