@@ -9,3 +9,4 @@ pub mod Payload
 pub mod Meaning
 pub mod Acting
 pub mod Running
+pub mod Rest
