@@ -1,4 +1,5 @@
 //! Small policies and small scripts: what they are, how they are read, and how they run.
+pub mod acted;
 pub mod facts;
 mod lexer;
 pub mod lines;
@@ -7,3 +8,4 @@ pub mod policy;
 pub mod rows;
 pub mod script;
 pub mod values;
+pub mod verdict;
