@@ -29,16 +29,17 @@ pub record Maker : Type 0 where
   pub digest : List ℕ
   pub author : List ℕ
 
+abbrev pub maker : Tagging → List ℕ → List ℕ → Maker
+maker tagged digest author = record { tagged = tagged; digest = digest; author = author }
+
 -- the command that begins a graph, with its tag
 abbrev pub start_command : Maker → Name → Command
-start_command maker name =
-    command.Init maker.digest maker.author name [] (maker.tagged maker.author (init_body maker.digest maker.author name []))
+start_command by name = command.Init by.digest by.author name [] (by.tagged by.author (init_body by.digest by.author name []))
 
 -- an ordinary command on top of its parent, with its tag; its priority is 0
-abbrev pub basic_command : Maker → List ℕ → Name → List ℤ → Command
-basic_command maker parent name values =
-    command.Basic 0 parent maker.author name (payload_of values)
-    (maker.tagged maker.author (basic_body 0 parent maker.author name (payload_of values)))
+abbrev pub command_on : Maker → List ℕ → Name → List ℕ → Command
+command_on by parent name payload =
+    command.Basic 0 parent by.author name payload (by.tagged by.author (basic_body 0 parent by.author name payload))
 
 -- the id of the last command, which the next one has as its parent
 abbrev pub head_of : List Command → List ℕ
@@ -51,7 +52,7 @@ is_held commands id = list_any (λ c. bytes_eq (command_id c) id) commands
 
 -- a command that is about to be published, whose policy has come to this end
 abbrev pub posted : Command → Name → Verdict → Acted
-posted c name (verdict.Pass rows) = Published c
+posted c name (verdict.Pass rows) = Published c rows
 posted c name verdict.Check = Refused (refusal.Check name)
 posted c name verdict.Exists = Refused (refusal.Exists name)
 
@@ -65,17 +66,17 @@ published_values b a arguments = constructed b.fields a.published.binds a.parame
 
 -- the publish of an action, where the name of its command means this item
 abbrev pub publishes : List Item → Maker → List Command → Action → List ℤ → Option Item → Acted
-publishes items maker commands a arguments (Some (item.Start s)) =
-    published commands (start_command maker s.name) s.name (verdict.Pass (ran items commands).rows)
-publishes items maker commands a arguments (Some (item.Basic b)) =
-    published commands (basic_command maker (head_of commands) b.name (published_values b a arguments)) b.name
-        (meaning.verdict b maker.author (published_values b a arguments) (ran items commands).rows)
-publishes items maker commands a arguments other = Refused refusal.UnknownAction
+publishes items by commands a arguments (Some (item.Start s)) =
+    published commands (start_command by s.name) s.name (verdict.Pass (ran items commands).rows)
+publishes items by commands a arguments (Some (item.Basic b)) =
+    published commands (command_on by (head_of commands) b.name (payload_of (published_values b a arguments))) b.name
+        (meaning.verdict b by.author (published_values b a arguments) (ran items commands).rows)
+publishes items by commands a arguments other = Refused refusal.UnknownAction
 
 -- the action that a name means, with arguments
 abbrev pub acted_by : List Item → Maker → List Command → List ℤ → Option Item → Acted
-acted_by items maker commands arguments (Some (item.Action a)) = publishes items maker commands a arguments (item_named items a.published.name)
-acted_by items maker commands arguments other = Refused refusal.UnknownAction
+acted_by items by commands arguments (Some (item.Action a)) = publishes items by commands a arguments (item_named items a.published.name)
+acted_by items by commands arguments other = Refused refusal.UnknownAction
 
 abbrev pub acted : List Item → Maker → List Command → Name → List ℤ → Acted
-acted items maker commands name arguments = acted_by items maker commands arguments (item_named items name)
+acted items by commands name arguments = acted_by items by commands arguments (item_named items name)

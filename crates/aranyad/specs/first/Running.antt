@@ -16,7 +16,7 @@ use Rattle.aranyad.specs.declared.first.acted.Acted.{Acted}
 use Rattle.aranyad.specs.declared.first.acted.Acted.TheVariants.{Published, Refused}
 use Rattle.aranyad.specs.declared.first.acted.Refusal.{Refusal}
 use Rattle.aranyad.specs.declared.first.acted.Refusal.TheVariants as refusal
-use Rattle.aranyad.specs.first.Acting.{Maker, Tagging, acted}
+use Rattle.aranyad.specs.first.Acting.{Maker, Tagging, acted, maker}
 use Rattle.aranyad.specs.first.Meaning.{ran}
 use Rattle.aranyad.specs.first.Sound.{Name}
 
@@ -46,7 +46,7 @@ refusal_text refusal.UnknownAction = codes "refused unknown action\n"
 
 -- an `init` or `act` line: what the action led to; a refusal changes nothing
 abbrev pub acted_step : List ℕ → List Command → Acted → Step
-acted_step begun commands (Published c) = record { commands = commands ++ c ∷ []; text = begun ++ published_text commands }
+acted_step begun commands (Published c rows) = record { commands = commands ++ c ∷ []; text = begun ++ published_text commands }
 acted_step begun commands (Refused why) = record { commands = commands; text = begun ++ refusal_text why }
 
 -- the fact of the policy
@@ -67,7 +67,7 @@ facts_text items name rows = codes "facts " ++ name ++ codes ": " ++ decimal (le
 
 -- the maker of a replica's commands: its author is named after it, and the digest is that of the document
 abbrev pub maker_of : Tagging → List ℕ → Name → Maker
-maker_of tagged document name = record { tagged = tagged; digest = sha256 document; author = author_id name }
+maker_of tagged document name = maker tagged (sha256 document) (author_id name)
 
 module _ (tagged : Tagging) (document : List ℕ) (items : List Item) where
   -- what a line leads to, where the replica holds these commands

@@ -1,11 +1,13 @@
+use crate::first::facts::Row;
 use base_bytes::{Id, Text};
 use command::Command;
+use sqlite_items::Items;
 
 /// What an action leads to.
 #[derive(Drop)]
 pub enum Acted {
-    /// One command more.
-    Published(Command),
+    /// One command more, and the rows after it.
+    Published(Command, Items<Row>),
     Refused(Refusal),
 }
 
