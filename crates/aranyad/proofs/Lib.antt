@@ -3,3 +3,5 @@ pub mod Lexing
 pub mod Pieces
 pub mod Lines
 pub mod Parts
+pub mod Standing
+pub mod Payloads
