@@ -1,8 +1,8 @@
 // The files of the host.
-ghost use Rattle.std.specs.Prelude.{◌≡◌, None, IfOk, IfSome, take};
-ghost use Rattle.outside.specs.Causes.{ReadHasCause, next_count, read_faults_after};
+ghost use Rattle.std.specs.Prelude.{◌≡◌, None, IfOk};
+ghost use Rattle.outside.specs.Causes.{ReadHasCause, read_faults_after};
 ghost use Rattle.outside.specs.Files.{last_after};
-ghost use Rattle.outside.specs.Host.{host_files_last, host_files_faults};
+ghost use Rattle.outside.specs.Host.{host_files_last, host_files_faults, ReadsFront};
 
 use crate::count::Count;
 use crate::{Files, ReadFail};
@@ -35,7 +35,7 @@ impl<R: rt::Files + Drop> HostFiles<R> {
 
 // The first `limit + 1` bytes that the reader gives, or all of fewer.
 fn read_front<F: Read + Drop>(alloc: Global, file: F, limit: u64) -> io::Result<Vec<u8>>
-    ensures { IfOk result (λ bytes. IfSome (F.remaining file) (λ all. bytes.items ≡ take (next_count limit) all)) }
+    ensures { IfOk result (λ bytes. ReadsFront (F.remaining file) limit bytes.items) }
 {
     let mut bytes = Vec::new(alloc);
     let mut front = file.take(limit.saturating_add(1));
@@ -49,7 +49,9 @@ fn read_file<R: rt::Files>(
     alloc: Global,
     name: &str,
     limit: u64,
-) -> io::Result<Vec<u8>> {
+) -> io::Result<Vec<u8>>
+    ensures { IfOk result (λ bytes. (file : R.File) × ReadsFront (R.File.remaining file) limit bytes.items) }
+{
     read_front(alloc, fs::open(runtime, name)?, limit)
 }
 
@@ -66,6 +68,9 @@ impl<R: rt::Files + Drop> Files for HostFiles<R> {
         ensures last { host_files_last self.new ≡ last_after result name (host_files_last self.old) }
         ensures cause { ReadHasCause (host_files_faults self.old) (host_files_faults self.new) result }
         ensures faults { host_files_faults self.new ≡ read_faults_after result (host_files_faults self.old) }
+
+        // What it gives is the front of some file of the runtime, where that tells its bytes; std doesn't say of which.
+        ensures opened { IfOk result (λ bytes. (file : R.File) × ReadsFront (R.File.remaining file) limit bytes) }
     {
         match read_file(&self.runtime, alloc, name.as_str(), limit) {
             Ok(bytes) => Ok(Bytes::from_vec(bytes)),
