@@ -1,5 +1,6 @@
 //! Small policies and small scripts: what they are, how they are read, and how they run.
 pub mod acted;
+pub mod acting;
 pub mod facts;
 mod lexer;
 pub mod lines;

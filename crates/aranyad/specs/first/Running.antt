@@ -42,6 +42,7 @@ abbrev pub refusal_text : Refusal → List ℕ
 refusal_text (refusal.Collides id) = codes "refused collision " ++ encode_lower id ++ codes "\n"
 refusal_text (refusal.Check name) = codes "refused command " ++ name ++ codes ": check\n"
 refusal_text (refusal.Exists name) = codes "refused command " ++ name ++ codes ": fault exists\n"
+refusal_text refusal.NoGraph = codes "refused no graph\n"
 refusal_text refusal.UnknownAction = codes "refused unknown action\n"
 
 -- an `init` or `act` line: what the action led to; a refusal changes nothing
