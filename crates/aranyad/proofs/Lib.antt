@@ -5,3 +5,4 @@ pub mod Lines
 pub mod Parts
 pub mod Standing
 pub mod Payloads
+pub mod Publishing

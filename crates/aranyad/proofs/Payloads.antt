@@ -32,9 +32,9 @@ fields_more v values fits so_far =
     let eight = length-int_bytes v in
     let enough : nat_le 8 (length (int_bytes v ++ payload_of values)) ≡ true = grind (arith, nat_tests, length-append (int_bytes v) (payload_of values), eight) in
     let front : take 8 (int_bytes v ++ payload_of values) ≡ int_bytes v =
-        ap (λ n. take n (int_bytes v ++ payload_of values)) (sym eight) ∙ take-append_seam (int_bytes v) (payload_of values) in
+    ap (λ n. take n (int_bytes v ++ payload_of values)) (sym eight) ∙ take-append_seam (int_bytes v) (payload_of values) in
     let behind : drop 8 (int_bytes v ++ payload_of values) ≡ payload_of values =
-        ap (λ n. drop n (int_bytes v ++ payload_of values)) (sym eight) ∙ drop-append_seam (int_bytes v) (payload_of values) in
+    ap (λ n. drop n (int_bytes v ++ payload_of values)) (sym eight) ∙ drop-append_seam (int_bytes v) (payload_of values) in
     rw (enough, front, behind, so_far, int_of-int_bytes v fits) refl
 
 -- a list that isn't empty is its first element and those behind it, as a pattern cuts it

@@ -8,6 +8,7 @@ pub mod lookup;
 pub mod making;
 pub mod payload;
 pub mod policy;
+pub mod publishing;
 pub mod rows;
 pub mod script;
 pub mod stop;

@@ -1,10 +1,12 @@
 -- What contracts say of an action's answer beside the answer itself.
 use Rattle.std.specs.Prelude.{◌≡◌, ℕ, ◌≤◌, List, [], ◌∷◌, ◌++◌, Option, IfSome, Result, Ok, Err}
+use Rattle.std.specs.List.{AllByRecursion}
 use Rattle.outside.specs.Causes.{Rose}
 use Rattle.command.specs.declared.command.Command.{Command}
 use Rattle.command.specs.Wire.{IsInForm}
 use Rattle.aranyad.specs.declared.first.acted.Acted.{Acted}
 use Rattle.aranyad.specs.declared.first.acted.Acted.TheVariants.{Published, Refused}
+use Rattle.aranyad.specs.declared.first.facts.Row.{Row}
 use Rattle.aranyad.specs.declared.first.policy.Item.{Item}
 use Rattle.aranyad.specs.declared.first.stop.Stop.{Stop}
 use Rattle.aranyad.specs.declared.first.stop.Stop.TheVariants as stop
@@ -15,10 +17,21 @@ use Rattle.aranyad.specs.first.Meaning.{ran}
 abbrev pub IsMade : {A : Type 0} → Option Tagging → (Tagging → A) → A → Type 0
 IsMade told made value = IfSome told (λ tagged. value ≡ made tagged)
 
+-- a command with a tag of its body; where the envelope tells its tags, it is the tag that is told
+pub record IsTagged (told : Option Tagging) (author body : List ℕ) (with_tag : List ℕ → Command) (c : Command) : Type 0 where
+  pub tag : List ℕ
+  pub is : c ≡ with_tag tag
+  pub as_told : IfSome told (λ tagged. tag ≡ tagged author body)
+
 -- the envelope's count before and after: it doesn't fall, and where a seal was the reason to stop it rose
 pub record SealHasCause {T : Type 0} (before now : ℕ) (result : Result T Stop) : Type 0 where
   pub later : before ≤ now
   pub failed : result ≡ Err stop.Seal → Rose before now
+
+-- the commands that a replica holds are in the wire form, and the rows are those of their run
+pub record Stands (items : List Item) (commands : List Command) (rows : List Row) : Type 0 where
+  pub formed : AllByRecursion IsInForm commands
+  pub run : rows ≡ (ran items commands).rows
 
 -- what is published is in the wire form, and the rows after it are those of the run of all commands
 abbrev pub Keeps : List Item → List Command → Acted → Type 0

@@ -37,7 +37,7 @@ fn is_held(commands: &[Command], id: &Id) -> bool
 }
 
 /// The id of the last command, and None where there is none.
-fn head_of(commands: &[Command]) -> Option<Id>
+pub fn head_of(commands: &[Command]) -> Option<Id>
     requires { AllByRecursion IsInForm commands.now }
     ensures { result ≡ acting.head_of commands.now }
 {
@@ -49,7 +49,7 @@ fn head_of(commands: &[Command]) -> Option<Id>
 }
 
 /// The policy block of a command by an author, over rows.
-fn verdict(
+pub fn verdict(
     alloc: Global,
     basic: &Basic,
     author: &Id,
@@ -61,7 +61,11 @@ fn verdict(
     if !checks_hold(basic, values) {
         return Ok(Verdict::Check);
     }
-    let key = value_of(basic.fields.as_slice(), values, basic.created.field.as_slice());
+    let key = value_of(
+        basic.fields.as_slice(),
+        values,
+        basic.created.field.as_slice(),
+    );
     let row = Row {
         key,
         holder: *author,
@@ -73,7 +77,7 @@ fn verdict(
 }
 
 /// What a command that is about to be published leads to, where its policy comes to this end.
-fn published(
+pub fn published(
     alloc: Global,
     commands: &[Command],
     command: Command,

@@ -7,5 +7,5 @@ pub returns-in_ok-push_int-in-len1-up-clause-read : goal.returns-in_ok-push_int-
 returns-in_ok-push_int-in-len1-up-clause-read t c =
     let fits : SFits w64 (get_or c.args.values.now 0 (pos 0)) = search rules in
     on_ok_weaker c.push_ints.result
-        (fields_stepped c.args.values.now _ _ (first_and_behind c.args.values.now (pos 0) (omega (arith, c.in-len1-up.len_at_least))) fits)
-        c.push_ints.ensures.read
+    (fields_stepped c.args.values.now _ _ (first_and_behind c.args.values.now (pos 0) (omega (arith, c.in-len1-up.len_at_least))) fits)
+    c.push_ints.ensures.read
