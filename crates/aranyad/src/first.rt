@@ -12,5 +12,6 @@ pub mod publishing;
 pub mod rows;
 pub mod script;
 pub mod stop;
+pub mod texts;
 pub mod values;
 pub mod verdict;
