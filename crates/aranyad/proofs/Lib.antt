@@ -6,3 +6,4 @@ pub mod Parts
 pub mod Standing
 pub mod Payloads
 pub mod Publishing
+pub mod Leading

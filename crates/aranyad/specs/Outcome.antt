@@ -4,6 +4,7 @@ use Rattle.std.specs.Prelude.{◌≡◌, ℕ, nat_lt, ◌++◌, ◌^◌, if◌th
 use Rattle.std.specs.List.{concat}
 use Rattle.std.specs.Fmt.{decimal}
 use Rattle.std.specs.Io.KnownBytes.{append_known}
+use Rattle.sha2.specs.Sha256.{sha256}
 use Rattle.outside.specs.Files.{Holding}
 use Rattle.aranyad.specs.declared.mode.Mode.{Mode}
 use Rattle.aranyad.specs.declared.mode.Mode.TheVariants.{Run}
@@ -50,7 +51,7 @@ limited limit (Some file) = Some (if nat_lt limit (length file) then None else S
 module _ (tagged : Tagging) (document : List ℕ) (policy : SmallPolicy) where
   -- the script's lines are run in order, or its first bad line is named
   abbrev pub lines_outcome : Result (List Line) ℕ → Outcome
-  lines_outcome (Ok lines) = record { status = status.Done; pieces = texts tagged document policy.items [] lines }
+  lines_outcome (Ok lines) = record { status = status.Done; pieces = texts tagged (sha256 document) policy.items [] lines }
   lines_outcome (Err line) = refused status.ScriptRefused (codes "script refused: line " ++ decimal line)
 
   abbrev pub script_outcome : Option (Option (List ℕ)) → Outcome

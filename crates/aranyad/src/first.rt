@@ -9,6 +9,7 @@ pub mod making;
 pub mod payload;
 pub mod policy;
 pub mod publishing;
+pub mod replica;
 pub mod rows;
 pub mod script;
 pub mod stop;

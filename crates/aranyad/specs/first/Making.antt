@@ -12,6 +12,7 @@ use Rattle.aranyad.specs.declared.first.stop.Stop.{Stop}
 use Rattle.aranyad.specs.declared.first.stop.Stop.TheVariants as stop
 use Rattle.aranyad.specs.first.Acting.{Tagging}
 use Rattle.aranyad.specs.first.Meaning.{ran}
+use Rattle.aranyad.specs.first.Running.{Step}
 
 -- where the envelope tells its tags, the value is the one that is made with them
 abbrev pub IsMade : {A : Type 0} → Option Tagging → (Tagging → A) → A → Type 0
@@ -37,3 +38,7 @@ pub record Stands (items : List Item) (commands : List Command) (rows : List Row
 abbrev pub Keeps : List Item → List Command → Acted → Type 0
 Keeps items commands (Published c rows) = IsInForm c × (rows ≡ (ran items (commands ++ c ∷ [])).rows)
 Keeps items commands (Refused why) = Unit {0}
+
+-- where the envelope tells its tags, a line leads from commands to others, with this text
+abbrev pub Leads : Option Tagging → (Tagging → Step) → List Command → List ℕ → Type 0
+Leads told defined commands text = IfSome told (λ tagged. defined tagged ≡ record { commands = commands; text = text })

@@ -3,7 +3,6 @@ use Rattle.std.specs.Prelude.{ℕ, ℤ, ◌+◌, ◌-◌, List, [], ◌∷◌, �
 use Rattle.std.specs.List.{concat, flat_map}
 use Rattle.std.specs.Fmt.{decimal, signed_decimal}
 use Rattle.hex.specs.Hex.{encode_lower}
-use Rattle.sha2.specs.Sha256.{sha256}
 use Rattle.command.specs.declared.command.Command.{Command}
 use Rattle.outside.specs.Envelope.{author_id}
 use Rattle.aranyad.specs.declared.first.policy.Item.{Item}
@@ -70,16 +69,16 @@ rows_text (Some f) rows = flat_map (row_text f) rows
 abbrev pub facts_text : List Item → Name → List Row → List ℕ
 facts_text items name rows = concat (codes "facts " ∷ name ∷ codes ": " ∷ decimal (length rows) ∷ codes "\n" ∷ rows_text (fact_of items) rows ∷ [])
 
--- the maker of a replica's commands: its author is named after it, and the digest is that of the document
+-- the maker of a replica's commands: its author is named after it
 abbrev pub maker_of : Tagging → List ℕ → Name → Maker
-maker_of tagged document name = maker tagged (sha256 document) (author_id name)
+maker_of tagged digest name = maker tagged digest (author_id name)
 
-module _ (tagged : Tagging) (document : List ℕ) (items : List Item) where
-  -- what a line leads to, where the replica holds these commands
+module _ (tagged : Tagging) (digest : List ℕ) (items : List Item) where
+  -- what a line leads to, where the replica holds these commands; the digest is that of the policy's document
   abbrev pub step : List Command → Line → Step
   step commands (Replica a) = record { commands = commands; text = replica_text a (length commands) }
-  step commands (Init a f) = acted_step (codes "init") a commands (acted items (maker_of tagged document a) commands f [])
-  step commands (Act a g ns) = acted_step (codes "act") a commands (acted items (maker_of tagged document a) commands g ns)
+  step commands (Init a f) = acted_step (codes "init") a commands (acted items (maker_of tagged digest a) commands f [])
+  step commands (Act a g ns) = acted_step (codes "act") a commands (acted items (maker_of tagged digest a) commands g ns)
   step commands (Facts a) = record { commands = commands; text = facts_text items a (ran items commands).rows }
 
   -- the texts of lines in order

@@ -12,6 +12,7 @@ use outside::Envelope;
 use std::alloc::Global;
 
 /// Who makes commands, and under which document: the author's id and the document's digest.
+#[derive(Clone, Copy)]
 pub struct Maker {
     pub digest: Id,
     pub author: Id,
