@@ -1,9 +1,9 @@
 -- Lemmas that the proofs of this crate share.
+pub mod Leading
 pub mod Lexing
+pub mod LineTexts
 pub mod Pieces
 pub mod Lines
-pub mod Parts
-pub mod Standing
 pub mod Payloads
 pub mod Publishing
-pub mod Leading
+pub mod Standing

@@ -1,6 +1,7 @@
 //! Small policies and small scripts: what they are, how they are read, and how they run.
 pub mod acted;
 pub mod acting;
+pub mod document;
 pub mod facts;
 mod lexer;
 pub mod lines;
@@ -12,6 +13,7 @@ pub mod publishing;
 pub mod replica;
 pub mod rows;
 pub mod script;
+pub mod script_reader;
 pub mod stop;
 pub mod texts;
 pub mod values;
