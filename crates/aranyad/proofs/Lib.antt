@@ -2,6 +2,7 @@
 pub mod Lexing
 pub mod Pieces
 pub mod Lines
+pub mod ScriptLines
 pub mod Parts
 pub mod Standing
 pub mod Payloads

@@ -9,6 +9,8 @@ pub mod payload;
 pub mod policy;
 pub mod rows;
 pub mod script;
+mod script_line;
+pub mod script_reader;
 pub mod stop;
 pub mod values;
 pub mod verdict;
