@@ -151,3 +151,20 @@ plain_first n (c ∷ cs) some mark space is =
     rw is
     (front_kept (c ∷ cs) (front_of (c ∷ cs)) (some_plain c cs mark space)
     ∙ ap (λ piece. piece ∷ pieces (drop (length (take_while is_plain (c ∷ cs))) (c ∷ cs))) (sym (ap (λ k. take k (c ∷ cs)) (length-prefix_len is_plain (c ∷ cs)))))
+
+-- one argument more
+more_numbers : (ps qs rs : List (List ℕ)) (piece mark : List ℕ) (n : ℤ) → ps ≡ piece ∷ qs → qs ≡ mark ∷ rs → Some n ≡ number_of piece
+    → is_end qs ≡ false → bytes_eq mark (codes ",") ≡ true → numbers_of ps ≡ option_map (λ ns. n ∷ ns) (numbers_of rs)
+more_numbers ps qs rs piece mark n is behind good goes comma =
+    let goes_on : is_end (mark ∷ rs) ≡ false = rw behind at goes in
+    rw (is, behind, ← good, goes_on, comma) refl
+
+onto_front : (ns : List ℤ) (n : ℤ) (o : Option (List ℤ)) → option_map (λ more. (ns ++ n ∷ []) ++ more) o ≡ option_map (λ more. ns ++ more) (option_map (λ more. n ∷ more) o)
+onto_front ns n None = refl
+onto_front ns n (Some more) = ap Some (append_assoc ns (n ∷ []) more)
+
+pub one_number_more : (ns pushed : List ℤ) (ps qs rs : List (List ℕ)) (piece mark : List ℕ) (n : ℤ) → pushed ≡ ns ++ n ∷ [] → ps ≡ piece ∷ qs → qs ≡ mark ∷ rs
+    → Some n ≡ number_of piece → is_end qs ≡ false → bytes_eq mark (codes ",") ≡ true
+    → option_map (λ more. pushed ++ more) (numbers_of rs) ≡ option_map (λ more. ns ++ more) (numbers_of ps)
+one_number_more ns pushed ps qs rs piece mark n one_more is behind good goes comma =
+    rw one_more (onto_front ns n (numbers_of rs) ∙ ap (option_map (λ more. ns ++ more)) (sym (more_numbers ps qs rs piece mark n is behind good goes comma)))

@@ -1,5 +1,5 @@
 ghost use Rattle.std.specs.Prelude.{◌≡◌, ◌<◌, ◌≤◌, IfOk, IsTrue, MatchOption, false, [], ◌∷◌, drop, length, slice_index, take};
-ghost use Rattle.std.specs.List.{take_while};
+ghost use Rattle.std.specs.List.{list_all, take_while};
 ghost use Rattle.std.specs.Str.{IsUtf8};
 ghost use Rattle.base_bytes.specs.Words.{is_word};
 ghost use Rattle.aranyad.specs.first.Script.{arguments_of, call_line, is_end, is_mark, is_plain, is_replica, is_replica_byte, is_space, line_for, line_of, number_of, numbers_of, pieces, plain_line};
@@ -98,13 +98,14 @@ fn text(alloc: Global, name: &[u8]) -> Result<Text, NoMemory>
 fn is_replica(name: &[u8]) -> bool
     ensures { result ≡ is_replica name.now }
 {
-    name.iter().all(|byte| is_replica_byte(*byte)) && !name.is_empty() && name.len() <= 16
+    are_replica_bytes(name) && !name.is_empty() && name.len() <= 16
 }
 
-fn is_replica_byte(byte: u8) -> bool
-    ensures { result ≡ is_replica_byte byte }
+fn are_replica_bytes(name: &[u8]) -> bool
+    ensures { result ≡ list_all is_replica_byte name.now }
 {
-    byte.is_ascii_lowercase() || byte.is_ascii_digit() || byte == b'_'
+    name.iter()
+        .all(|byte| byte.is_ascii_lowercase() || byte.is_ascii_digit() || *byte == b'_')
 }
 
 /// The arguments, from what stands behind the opening mark.
