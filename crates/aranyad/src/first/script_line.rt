@@ -76,7 +76,7 @@ fn call_line(
     let action = text(alloc, action)?;
     if verb == b"act".as_slice() {
         Ok(Some(Line::Act(replica, action, arguments)))
-    } else if verb == b"init".as_slice() && arguments.len() == 0 {
+    } else if verb == b"init".as_slice() && arguments.is_empty() {
         Ok(Some(Line::Init(replica, action)))
     } else {
         Ok(None)

@@ -60,7 +60,7 @@ fn starts(items: &[Item], name: &[u8]) -> bool
 {
     match item_named(items, name) {
         Some(Item::Action(action)) => {
-            action.parameters.len() == 0 && is_start(items, action.published.name.as_slice())
+            action.parameters.is_empty() && is_start(items, action.published.name.as_slice())
         }
         _ => false,
     }
