@@ -1,5 +1,5 @@
 -- The lines of a small script: the pieces of a line, one after another, and what they make.
-use Rattle.std.proofs.Common.{◌≡◌, ℕ, ℤ, ◌+◌, ◌-◌, ◌<◌, ◌≤◌, ◌==◌, ◌&&◌, ◌||◌, not, nat_le, Bool, true, false, cond, IsTrue, List, [], ◌∷◌, ◌++◌, length, take, drop, get_or, slice_index, codes, refl, sym, ap, ◌∙◌, arith, Option, Some, None, option_map, append_assoc, rules}
+use Rattle.std.proofs.Common.{◌≡◌, ℕ, ℤ, ◌+◌, ◌-◌, ◌<◌, ◌==◌, not, Bool, true, false, List, [], ◌∷◌, ◌++◌, length, take, drop, get_or, slice_index, codes, refl, sym, ap, ◌∙◌, arith, Option, Some, None, option_map, append_assoc}
 use Rattle.std.specs.List.{filter, flat_map, list_all, slice_split, take_while}
 use Rattle.std.specs.Str.{IsAscii, IsUtf8, bytes_eq}
 use Rattle.std.proofs.lemmas.Str.{IsUtf8-from_ascii}
@@ -34,6 +34,7 @@ word_is_text name is =
     let all = and_parts _ (list_all is_word_byte name) (and_parts _ _ is).0 in
     IsUtf8-from_ascii name (all_ascii is_word_byte word_byte_is_ascii name all.1)
 
+-- pieces are the parts that hold something
 abbrev is_some : List ℕ → Bool
 is_some piece = not (length piece == 0)
 

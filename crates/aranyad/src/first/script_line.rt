@@ -25,7 +25,12 @@ pub fn line_of(alloc: Global, line: &[u8]) -> Result<Option<Line>, NoMemory>
 }
 
 /// The line of a replica, from what stands behind its name.
-fn line_for(alloc: Global, verb: &[u8], replica: &[u8], behind: &[u8]) -> Result<Option<Line>, NoMemory>
+fn line_for(
+    alloc: Global,
+    verb: &[u8],
+    replica: &[u8],
+    behind: &[u8],
+) -> Result<Option<Line>, NoMemory>
     requires { IsTrue (is_replica replica.now) }
     ensures { IfOk result (λ o. o ≡ line_for verb.now replica.now (pieces behind.now)) }
 {
@@ -104,8 +109,7 @@ fn is_replica(name: &[u8]) -> bool
 fn are_replica_bytes(name: &[u8]) -> bool
     ensures { result ≡ list_all is_replica_byte name.now }
 {
-    name.iter()
-        .all(|byte| byte.is_ascii_lowercase() || byte.is_ascii_digit() || *byte == b'_')
+    name.iter().all(|byte| byte.is_ascii_lowercase() || byte.is_ascii_digit() || *byte == b'_')
 }
 
 /// The arguments, from what stands behind the opening mark.

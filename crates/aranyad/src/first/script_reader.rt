@@ -33,7 +33,9 @@ fn has_place(items: &[Item], seen: &[Line], line: &Line) -> bool
     match line {
         Line::Replica(_) => seen.is_empty(),
         Line::Init(replica, action) => {
-            seen.len() == 1 && replica.as_slice() == replica_of(seen) && starts(items, action.as_slice())
+            seen.len() == 1
+                && replica.as_slice() == replica_of(seen)
+                && starts(items, action.as_slice())
         }
         Line::Act(replica, action, arguments) => {
             seen.len() == 2

@@ -1,7 +1,6 @@
-use Rattle.std.proofs.Common.{◌≡◌, ◌∷◌, ◌++◌, [], false, true, sym, ◌∙◌, arith, rules, codes, Some}
+use Rattle.std.proofs.Common.{◌≡◌, ◌∷◌, ◌++◌, [], true, sym, ◌∙◌, rules, codes, Some}
 use Rattle.std.specs.Str.{bytes_eq}
 use Rattle.std.proofs.lemmas.Bool.{not-false}
-use Rattle.std.proofs.lemmas.Grind.{common_steps}
 use Rattle.aranyad.specs.first.Script.{pieces, number_of}
 use Rattle.aranyad.proofs.ScriptLines.{one_number_more}
 use Rattle.aranyad.proofs.first.script_line.numbers_of.Goals as goal
