@@ -2,8 +2,9 @@
 pub mod Leading
 pub mod Lexing
 pub mod LineTexts
-pub mod Pieces
 pub mod Lines
 pub mod Payloads
+pub mod Pieces
 pub mod Publishing
+pub mod ScriptLines
 pub mod Standing

@@ -13,6 +13,7 @@ pub mod publishing;
 pub mod replica;
 pub mod rows;
 pub mod script;
+mod script_line;
 pub mod script_reader;
 pub mod stop;
 pub mod texts;

@@ -8,7 +8,6 @@ use Rattle.base_bytes.specs.Words.{is_word}
 use Rattle.policy_ast.specs.declared.token.TokenKind.TheVariants.{Number}
 use Rattle.aranyad.specs.declared.first.policy.Item.{Item}
 use Rattle.aranyad.specs.declared.first.policy.Item.TheVariants as item
-use Rattle.aranyad.specs.declared.first.policy.Action.{Action}
 use Rattle.aranyad.specs.declared.first.script.Line.{Line}
 use Rattle.aranyad.specs.declared.first.script.Line.TheVariants.{Replica, Init, Act, Facts}
 use Rattle.aranyad.specs.declared.first.script.Script.{Script}
@@ -24,13 +23,15 @@ is_mark c = c == byte "(" || (c == byte ")" || c == byte ",")
 abbrev pub set_apart : ℕ → List ℕ
 set_apart c = if is_mark c then byte " " ∷ c ∷ byte " " ∷ [] else c ∷ []
 
+-- the byte that parts pieces; tabs are bytes like others
 abbrev pub is_space : ℕ → Bool
 is_space c = c == byte " "
 
+-- a byte that is neither a mark nor a space
 abbrev pub is_plain : ℕ → Bool
 is_plain c = not (is_mark c || is_space c)
 
--- the pieces of a line: marks, and what stands between spaces and marks
+-- the pieces of a line: its marks, and what stands between spaces and marks
 unfoldable pub pieces : List ℕ → List (List ℕ)
 pieces line = filter (λ piece. not (length piece == 0)) (slice_split is_space (flat_map set_apart line))
 
@@ -42,11 +43,12 @@ is_replica_byte c = (nat_le (byte "a") c && nat_le c (byte "z")) || ((nat_le (by
 abbrev pub is_replica : Name → Bool
 is_replica name = list_all is_replica_byte name && not (length name == 0) && nat_le (length name) 16
 
--- the number that a piece is: one token of the policy language, with nothing before it and nothing behind it
+-- a token that is a number, with nothing behind it
 abbrev pub whole_number : Option Piece → Option ℤ
 whole_number (Some (Number n, [])) = Some n
 whole_number other = None
 
+-- the number that a piece is, as one token of the policy language
 abbrev pub number_of : List ℕ → Option ℤ
 number_of piece = whole_number (piece_at piece)
 
@@ -98,10 +100,12 @@ line_of [] = None
 line_of (verb ∷ []) = None
 line_of (verb ∷ a ∷ more) = if is_replica a then line_for verb a more else None
 
+-- the command that begins a graph
 abbrev pub is_start : Option Item → Bool
 is_start (Some (item.Start s)) = true
 is_start other = false
 
+-- another command
 abbrev pub is_basic : Option Item → Bool
 is_basic (Some (item.Basic b)) = true
 is_basic other = false
