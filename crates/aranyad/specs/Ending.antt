@@ -1,5 +1,5 @@
 -- How a run ends, by its statuses; and which counts must have risen where it was halted.
-use Rattle.std.specs.Prelude.{◌≡◌, ◌≢◌, ℕ, ◌≤◌, ◌⊎◌, List, Option, Some, Result, Ok, Err, OnErr}
+use Rattle.std.specs.Prelude.{◌≡◌, ◌≢◌, ℕ, ◌≤◌, List, Option, Some, Result, Ok, Err, OnErr}
 use Rattle.outside.specs.Causes.{Rose}
 use Rattle.aranyad.specs.declared.ending.Ending.{Ending}
 use Rattle.aranyad.specs.declared.ending.Ending.TheVariants as ending
@@ -27,23 +27,27 @@ abbrev pub halt_of : Stop → Halt
 halt_of stop.Seal = halt.Seal
 halt_of stop.Memory = halt.Memory
 
--- what was counted and told of the outside: the faults of the files, of the envelope and of the sink, and the name of the
--- latest failed read
+-- the counts of faults of the files, of the envelope and of the sink
 pub record Counts : Type 0 where
   pub files : ℕ
-  pub last : Option (List ℕ)
   pub seals : ℕ
   pub writes : ℕ
 
--- no count fell, and a halt by a device needs that its count rose; a failed read was of the policy's file or the script's
-pub record HaltsWithCause {T : Type 0} (policy script : List ℕ) (old new : Counts) (result : Result T Halt) : Type 0 where
+abbrev pub counts : ℕ → ℕ → ℕ → Counts
+counts files seals writes = record { files = files; seals = seals; writes = writes }
+
+-- no count fell, and a halt by a device needs that its count rose
+pub record HaltsWithCause {T : Type 0} (old new : Counts) (result : Result T Halt) : Type 0 where
   pub later_files : old.files ≤ new.files
   pub later_seals : old.seals ≤ new.seals
   pub later_writes : old.writes ≤ new.writes
   pub read : result ≡ Err halt.Read → Rose old.files new.files
-  pub name : result ≡ Err halt.Read → (new.last ≡ Some policy) ⊎ (new.last ≡ Some script)
   pub seal : result ≡ Err halt.Seal → Rose old.seals new.seals
   pub write : result ≡ Err halt.Write → Rose old.writes new.writes
+
+-- where a read halted, the latest failed read is of the file with this name
+abbrev pub NamesFile : {T : Type 0} → List ℕ → Option (List ℕ) → Result T Halt → Type 0
+NamesFile name last result = result ≡ Err halt.Read → last ≡ Some name
 
 -- the same of a read of one file, which no other device halts
 pub record ReadHalts {T : Type 0} (name : List ℕ) (old new : ℕ) (last : Option (List ℕ)) (result : Result T Halt) : Type 0 where

@@ -20,7 +20,7 @@ fn push_all(into: &mut Bytes, parts: &[&str]) -> Result<(), NoMemory>
 }
 
 /// The parts of a text, one after another.
-fn joined(alloc: Global, parts: &[&str]) -> Result<Bytes, NoMemory>
+pub fn joined(alloc: Global, parts: &[&str]) -> Result<Bytes, NoMemory>
     ensures { IfOk result (λ text. text ≡ concat (map (λ part. part.now) parts.now)) }
 {
     let mut text = Bytes::new(alloc);
