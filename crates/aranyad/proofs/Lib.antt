@@ -6,5 +6,6 @@ pub mod Lines
 pub mod Payloads
 pub mod Pieces
 pub mod Publishing
+pub mod Runs
 pub mod ScriptLines
 pub mod Standing
