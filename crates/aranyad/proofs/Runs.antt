@@ -4,10 +4,31 @@ use Rattle.std.specs.Prelude.{IfSome}
 use Rattle.aranyad.specs.declared.ending.Ending.{Ending}
 use Rattle.aranyad.specs.declared.ending.Halt.{Halt}
 use Rattle.aranyad.specs.first.Acting.{Tagging}
-use Rattle.aranyad.specs.Outcome.{Outcome, RunsTo}
+use Rattle.outside.specs.Files.{Holding}
+use Rattle.aranyad.specs.Outcome.{Outcome, RunsTo, text_of}
+use Rattle.aranyad.proofs.Pieces.{front_of_none}
 
 -- an outcome that no tag changes
 pub runs_anyway : (told : Option Tagging) (defined : Tagging → Outcome) (outcome : Outcome) (result : Result Ending Halt) (old new : Option (List ℕ)) →
     ((tagged : Tagging) → defined tagged ≡ outcome) → RunsTo result outcome old new → IfSome told (λ tagged. RunsTo result (defined tagged) old new)
 runs_anyway None defined outcome result old new is runs = tt
 runs_anyway (Some tagged) defined outcome result old new is runs = subst (λ (o : Outcome). RunsTo result o old new) (sym (is tagged)) runs
+
+-- what is owed where the files and the tags are told
+pub told_both : (holds : Option Holding) (told : Option Tagging) (P : Holding → Tagging → Type 0) → ((at : Holding) (tagged : Tagging) → P at tagged) →
+    IfSome holds (λ at. IfSome told (P at))
+told_both None told P all = tt
+told_both (Some at) None P all = tt
+told_both (Some at) (Some tagged) P all = all at tagged
+
+-- what is owed follows from what a part gave
+pub told_from : (holds : Option Holding) (told : Option Tagging) (F : Holding → Type 0) (P Q : Holding → Tagging → Type 0) →
+    ((at : Holding) (tagged : Tagging) → F at → P at tagged → Q at tagged) →
+    IfSome holds F → IfSome holds (λ at. IfSome told (P at)) → IfSome holds (λ at. IfSome told (Q at))
+told_from None told F P Q step f p = tt
+told_from (Some at) None F P Q step f p = tt
+told_from (Some at) (Some tagged) F P Q step f p = step at tagged f p
+
+-- a halt before anything was written
+pub halted_at_once : (outcome : Outcome) (halt : Halt) (old : Option (List ℕ)) → RunsTo (Err halt) outcome old old
+halted_at_once outcome halt old = front_of_none (text_of outcome) old

@@ -20,11 +20,8 @@ use outside::{Envelope, Files, ReadFail, Sink};
 use sqlite_items::Items;
 use std::alloc::Global;
 
-/// A script has at most so many bytes.
-const SCRIPT_LIMIT: u64 = 4_194_304;
-
 /// A file's bytes, and None where it has more than the limit.
-fn read_limited<F: Files>(
+pub fn read_limited<F: Files>(
     alloc: Global,
     files: &mut F,
     name: Text,
@@ -49,7 +46,7 @@ fn read_limited<F: Files>(
 }
 
 /// Writes the line of a refusal, its line feed with it, and answers the ending.
-fn refuse<K: Sink>(out: &mut K, ending: Ending, line: &[u8]) -> Result<Ending, Halt>
+pub fn refuse<K: Sink>(out: &mut K, ending: Ending, line: &[u8]) -> Result<Ending, Halt>
     ensures run { RunsTo result (record { status = ending_status ending; pieces = line.now ∷ [] }) (K.written out.old) (K.written out.new) }
     ensures cause { WriteHalts (K.faults out.old) (K.faults out.new) result }
 {
@@ -98,7 +95,7 @@ fn run_lines<E: Envelope, K: Sink>(
 
 /// Runs a script that was read up to its limit, under a policy whose document has this digest.
 #[tactic(auto, using(crate::proofs::Pieces::front_of_none))]
-fn run_bytes<E: Envelope, K: Sink>(
+pub fn run_bytes<E: Envelope, K: Sink>(
     alloc: Global,
     digest: &Id,
     policy: &SmallPolicy,
