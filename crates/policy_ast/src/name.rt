@@ -30,7 +30,7 @@ impl Name {
         ensures found { IsSome result ↔ IsTrue (is_name text) }
         ensures value { IfSome result (λ n. n ≡ text) }
     {
-        if is_word(text.as_slice()) && !is_reserved(text.as_str()) {
+        if is_name(text.as_str()) {
             Some(Name { text })
         } else {
             None
@@ -72,6 +72,13 @@ impl Eq for Name {
     ghost use Rattle.std.proofs.lemmas.Slice.Eq.{bytes_eq-Decides};
 
     ghost laws = { Prim.search rules };
+}
+
+/// Whether a text is a name: a word that isn't reserved.
+pub fn is_name(text: &str) -> bool
+    ensures { result ≡ is_name text.now }
+{
+    is_word(text.as_bytes()) && !is_reserved(text)
 }
 
 /// The words that the grammar keeps for itself.
