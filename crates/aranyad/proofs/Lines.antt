@@ -72,7 +72,7 @@ lines_some (b ∷ bytes) some =
     (λ same. rw (lines_last b bytes ((Decides-eqb (line_end (b ∷ bytes)) (length (b ∷ bytes))).0 same)) (omega arith))
     (λ other. rw (lines_split (b ∷ bytes) (line_end_within (b ∷ bytes) other)) (omega arith))
 
-closed_more : (line : List ℕ) (more : List (List ℕ)) → 0 < length more → closed_body (line ∷ more) ≡ option_and_then (λ front. option_map (λ rest. front ++ rest) (closed_body more)) (line_tokens line)
+pub closed_more : (line : List ℕ) (more : List (List ℕ)) → 0 < length more → closed_body (line ∷ more) ≡ option_and_then (λ front. option_map (λ rest. front ++ rest) (closed_body more)) (line_tokens line)
 unfolding closed_body
 closed_more line [] some = absurd (omega arith)
 closed_more line (next ∷ more) some = refl
