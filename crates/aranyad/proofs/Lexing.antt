@@ -13,7 +13,7 @@ use Rattle.std.proofs.lemmas.List.Sums.{take_while-cons}
 use Rattle.std.proofs.lemmas.List.Folds.{length-prefix_len}
 use Rattle.std.proofs.lemmas.Bool.{lt-leb}
 use Rattle.std.proofs.lemmas.Bool.Decides.{nat_tests}
-use Rattle.policy_ast.specs.Words.{is_word_byte}
+use Rattle.base_bytes.specs.Words.{is_word_byte}
 
 word_byte_is_ascii : (c : ℕ) → is_word_byte c ≡ true → c < 128
 word_byte_is_ascii c is = grind (arith, nat_tests)

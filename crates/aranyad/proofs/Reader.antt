@@ -15,7 +15,7 @@ use Rattle.aranyad.specs.first.Spelling.{Tokens, spelling}
 use Rattle.aranyad.specs.first.Tokens.{line_tokens, lines_tokens}
 use Rattle.aranyad.proofs.Formats.{bind_then, if_then, map_then, same_some}
 use Rattle.aranyad.proofs.Grammar.{read_is_spelled, spelled_is_read}
-use Rattle.aranyad.proofs.Lines.{closed_more, lines_more, lines_none}
+use Rattle.aranyad.proofs.Bodies.{closed_more, lines_more, lines_none}
 
 -- a line that is there
 behind_is : (expected bytes rest : List ℕ) → behind_line expected bytes ≡ Some rest → lines bytes ≡ expected ∷ lines rest

@@ -2,4 +2,5 @@
 pub mod first
 pub mod Modes
 pub mod Outcome
+pub mod Status
 pub mod Written

@@ -1,7 +1,9 @@
 -- What small policies and small scripts are, and what they mean.
 pub mod Spelling
+pub mod Reading
 pub mod Tokens
 pub mod Document
+pub mod Framing
 pub mod Sound
 pub mod Script
 pub mod Facts
@@ -9,3 +11,5 @@ pub mod Payload
 pub mod Meaning
 pub mod Acting
 pub mod Running
+pub mod Rest
+pub mod Making

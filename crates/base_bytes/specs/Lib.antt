@@ -2,3 +2,4 @@
 pub mod Values
 pub mod Payload
 pub mod KeyOrder
+pub mod Words

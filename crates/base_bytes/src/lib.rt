@@ -15,6 +15,7 @@ mod tag;
 mod text;
 mod ty;
 mod value;
+mod words;
 
 pub use arg::Arg;
 pub use bytes::Bytes;
@@ -30,3 +31,4 @@ pub use tag::Tag;
 pub use text::Text;
 pub use ty::Ty;
 pub use value::{Value, Values, are_same_values, copy_values};
+pub use words::is_word;

@@ -17,10 +17,11 @@ pub record HasCause {T : Type 0} (before now : ℕ) (result : Result T Failed) :
   pub later : before ≤ now
   pub failed : OnErr result (Rose before now)
 
--- the same of a read, which may also lack memory: that needs no fault
+-- the same of a read, which may also lack memory: then the count stays
 pub record ReadHasCause {T : Type 0} (before now : ℕ) (result : Result T ReadFail) : Type 0 where
   pub later : before ≤ now
   pub failed : result ≡ Err fail.Failed → Rose before now
+  pub no_memory : result ≡ Err fail.NoMemory → now ≡ before
 
 -- the count after a call, of an object that counts its failed calls one by one
 abbrev pub faults_after : {T : Type 0} → Result T Failed → ℕ → ℕ

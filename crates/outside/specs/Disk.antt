@@ -1,5 +1,5 @@
 -- A disk's content, and what its calls give and do to it.
-use Rattle.std.specs.Prelude.{◌≡◌, ℕ, ◌+◌, ◌-◌, ◌≤◌, min, max, List, ◌++◌, length, take, drop, Option, Some, Result, Ok, Err}
+use Rattle.std.specs.Prelude.{◌≡◌, ℕ, ◌+◌, ◌-◌, min, List, ◌++◌, length, take, drop, Option, Some, Result, Ok, Err}
 use Rattle.outside.specs.declared.faults.Failed.{Failed}
 use Rattle.outside.specs.declared.faults.DiskStep.{DiskStep}
 
@@ -20,11 +20,10 @@ overwritten bytes at piece = take at bytes ++ piece ++ drop (at + length piece) 
 abbrev pub after_write : ℕ → List ℕ → Content → Content
 after_write at piece content = record { reads = overwritten content.reads at piece }
 
--- a failed write of n bytes at a place: its range may hold anything now, and the disk may end in it; every byte outside stays
+-- a failed write of n bytes at a place: its range may hold anything now, or the disk end in it; every byte outside stays
 pub record FailsWrite (at n : ℕ) (old new : Content) : Type 0 where
   pub before : take at new.reads ≡ take at old.reads
   pub behind : drop (at + n) new.reads ≡ drop (at + n) old.reads
-  pub no_longer : length new.reads ≤ max (length old.reads) (at + n)
 
 -- the step at which the disk failed last, after a call that does this step
 abbrev pub step_after : {T : Type 0} → Result T Failed → DiskStep → Option DiskStep → Option DiskStep

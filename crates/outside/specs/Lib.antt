@@ -5,6 +5,7 @@ pub mod Disk
 pub mod Envelope
 pub mod EnvelopeLaw
 pub mod Files
+pub mod Host
 pub mod MemoryFiles
 pub mod MemorySink
 pub mod Plan

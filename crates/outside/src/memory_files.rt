@@ -1,5 +1,5 @@
 // Files in memory, some of whose reads fail as planned.
-ghost use Rattle.std.specs.Prelude.{◌≡◌, ◌⊎◌, ◌↔◌, ◌+◌, ◌≤◌, take, Some, IfOk, option_map};
+ghost use Rattle.std.specs.Prelude.{◌≡◌, ◌⊎◌, ◌↔◌, ◌+◌, take, Some, IfOk};
 ghost use Rattle.std.specs.Option.{option_copied};
 ghost use Rattle.outside.specs.Causes.{ReadHasCause};
 ghost use Rattle.outside.specs.Files.{ReadsFile, FailsMissing, last_after};

@@ -1,5 +1,5 @@
 // The plain envelope of the program.
-ghost use Rattle.std.specs.Prelude.{◌≡◌, ◌^◌, ◌<◌, Some, IsOk, IsTrue, IfOk};
+ghost use Rattle.std.specs.Prelude.{◌≡◌, Some, IsOk, IsTrue, IfOk};
 ghost use Rattle.outside.specs.Causes.{HasCause};
 ghost use Rattle.outside.specs.Envelope.{plain_tag, is_plain_tag};
 

@@ -1,16 +1,7 @@
-use Rattle.std.specs.Prelude.{ℕ, ◌==◌, Bool, false, not, ◌&&◌, ◌||◌, List, [], ◌∷◌, codes, length, nat_lt}
-use Rattle.std.specs.Char.{is_ascii_alphabetic, is_ascii_alphanumeric}
-use Rattle.std.specs.List.{list_all, list_any}
+use Rattle.std.specs.Prelude.{ℕ, Bool, not, ◌&&◌, List, [], ◌∷◌, codes}
+use Rattle.std.specs.List.{list_any}
 use Rattle.std.specs.Str.{bytes_eq}
-
--- a letter, a digit or `_`
-abbrev pub is_word_byte : ℕ → Bool
-is_word_byte byte = is_ascii_alphanumeric byte || byte == 95
-
--- a letter, then letters, digits and `_`, all of ASCII: at most 64 bytes
-abbrev pub is_word : List ℕ → Bool
-is_word [] = false
-is_word (first ∷ rest) = is_ascii_alphabetic first && (nat_lt (length rest) 64 && list_all is_word_byte rest)
+use Rattle.base_bytes.specs.Words.{is_word}
 
 -- the words that the grammar keeps for itself
 abbrev pub reserved_words : List (List ℕ)

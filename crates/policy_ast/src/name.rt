@@ -1,9 +1,9 @@
 ghost use Rattle.std.specs.Prelude.{◌≡◌, ◌↔◌, IfOk, IfSome, IsSome, IsTrue};
-ghost use Rattle.std.specs.List.{list_all, list_any};
+ghost use Rattle.std.specs.List.{list_any};
 ghost use Rattle.std.specs.Str.{bytes_eq};
-ghost use Rattle.policy_ast.specs.Words.{is_word_byte, is_name, is_reserved, is_word};
+ghost use Rattle.policy_ast.specs.Words.{is_name, is_reserved};
 
-use base_bytes::{NoMemory, Text};
+use base_bytes::{NoMemory, Text, is_word};
 use std::alloc::Global;
 use std::marker::Model;
 
@@ -137,23 +137,4 @@ fn is_among(words: &[&str], word: &str) -> bool
     ensures { result ≡ list_any (λ other. bytes_eq word.now other.now) words.now }
 {
     words.iter().any(|other| word == *other)
-}
-
-fn is_word(text: &[u8]) -> bool
-    ensures { result ≡ is_word text.now }
-{
-    match text {
-        [first, rest @ ..] => first.is_ascii_alphabetic()
-            && rest.len() < 64
-            && are_word_bytes(rest),
-        [] => false,
-    }
-}
-
-fn are_word_bytes(bytes: &[u8]) -> bool
-    ensures { result ≡ list_all is_word_byte bytes.now }
-{
-    bytes
-        .iter()
-        .all(|byte| byte.is_ascii_alphanumeric() || *byte == b'_')
 }

@@ -1,17 +1,21 @@
 -- What an action of a small policy does to the commands of a replica.
-use Rattle.std.specs.Prelude.{ℕ, ℤ, pos, Bool, if◌then◌else◌, List, [], ◌∷◌, ◌++◌, Option, Some, None}
+use Rattle.std.specs.Prelude.{ℕ, ℤ, Bool, if◌then◌else◌, List, [], ◌∷◌, Option, Some, None}
 use Rattle.std.specs.List.{list_any}
 use Rattle.std.specs.Str.{bytes_eq}
 use Rattle.command.specs.declared.command.Command.{Command}
 use Rattle.command.specs.declared.command.Command.TheVariants as command
-use Rattle.command.specs.Wire.{id_of, body_of}
+use Rattle.command.specs.Wire.{command_id, init_body, basic_body}
 use Rattle.aranyad.specs.declared.first.policy.Item.{Item}
 use Rattle.aranyad.specs.declared.first.policy.Item.TheVariants as item
 use Rattle.aranyad.specs.declared.first.policy.Action.{Action}
 use Rattle.aranyad.specs.declared.first.policy.Basic.{Basic}
-use Rattle.aranyad.specs.declared.first.facts.Row.{Row}
+use Rattle.aranyad.specs.declared.first.acted.Acted.{Acted}
+use Rattle.aranyad.specs.declared.first.acted.Acted.TheVariants.{Published, Refused}
+use Rattle.aranyad.specs.declared.first.acted.Refusal.TheVariants as refusal
+use Rattle.aranyad.specs.declared.first.verdict.Verdict.{Verdict}
+use Rattle.aranyad.specs.declared.first.verdict.Verdict.TheVariants as verdict
 use Rattle.aranyad.specs.first.Meaning as meaning
-use Rattle.aranyad.specs.first.Meaning.{Verdict, constructed, verdict, ran}
+use Rattle.aranyad.specs.first.Meaning.{constructed, ran}
 use Rattle.aranyad.specs.first.Payload.{payload_of}
 use Rattle.aranyad.specs.first.Sound.{Name, item_named}
 
@@ -25,56 +29,54 @@ pub record Maker : Type 0 where
   pub digest : List ℕ
   pub author : List ℕ
 
+abbrev pub maker : Tagging → List ℕ → List ℕ → Maker
+maker tagged digest author = record { tagged = tagged; digest = digest; author = author }
+
 -- the command that begins a graph, with its tag
 abbrev pub start_command : Maker → Name → Command
-start_command maker name =
-    let body = body_of (command.Init maker.digest maker.author name [] []) in
-    command.Init maker.digest maker.author name [] (maker.tagged maker.author body)
+start_command by name = command.Init by.digest by.author name [] (by.tagged by.author (init_body by.digest by.author name []))
 
 -- an ordinary command on top of its parent, with its tag; its priority is 0
-abbrev pub basic_command : Maker → List ℕ → Name → List ℤ → Command
-basic_command maker parent name values =
-    let body = body_of (command.Basic 0 parent maker.author name (payload_of values) []) in
-    command.Basic 0 parent maker.author name (payload_of values) (maker.tagged maker.author body)
+abbrev pub command_on : Maker → List ℕ → Name → List ℕ → Command
+command_on by parent name payload =
+    command.Basic 0 parent by.author name payload (by.tagged by.author (basic_body 0 parent by.author name payload))
 
 -- the id of the last command, which the next one has as its parent
 abbrev pub head_of : List Command → List ℕ
 head_of [] = []
-head_of (c ∷ []) = id_of c
+head_of (c ∷ []) = command_id c
 head_of (c ∷ d ∷ commands) = head_of (d ∷ commands)
 
--- what an action leads to: one command more, or why there is none
-pub data Acted : Type 0 where
-  Published : Command → Acted
-  Collides : List ℕ → Acted
-  Unchecked : Name → Acted
-  RowExists : Name → Acted
-  Unknown : Acted
-
 abbrev pub is_held : List Command → List ℕ → Bool
-is_held commands id = list_any (λ c. bytes_eq (id_of c) id) commands
+is_held commands id = list_any (λ c. bytes_eq (command_id c) id) commands
 
--- a command that is about to be published: its id must be new, and its policy must pass over the rows that stand
+-- a command that is about to be published, whose policy has come to this end
 abbrev pub posted : Command → Name → Verdict → Acted
-posted c name (meaning.Pass rows effects) = Published c
-posted c name meaning.Check = Unchecked name
-posted c name meaning.Exists = RowExists name
+posted c name (verdict.Pass rows) = Published c rows
+posted c name verdict.Check = Refused (refusal.Check name)
+posted c name verdict.Exists = Refused (refusal.Exists name)
 
+-- its id must be new, before anything is made of its policy's end
 abbrev pub published : List Command → Command → Name → Verdict → Acted
-published commands c name end = if is_held commands (id_of c) then Collides (id_of c) else posted c name end
+published commands c name end = if is_held commands (command_id c) then Refused (refusal.Collides (command_id c)) else posted c name end
 
+-- the values of the fields that an action publishes
+abbrev pub published_values : Basic → Action → List ℤ → List ℤ
+published_values b a arguments = constructed b.fields a.published.binds a.parameters arguments
+
+-- the publish of an action, where the name of its command means this item
 abbrev pub publishes : List Item → Maker → List Command → Action → List ℤ → Option Item → Acted
-publishes items maker commands a arguments (Some (item.Start s)) =
-    published commands (start_command maker s.name) s.name (meaning.Pass (ran items commands).rows [])
-publishes items maker commands a arguments (Some (item.Basic b)) =
-    let values = constructed b.fields a.published.binds a.parameters arguments in
-    published commands (basic_command maker (head_of commands) b.name values) b.name (verdict items b maker.author values (ran items commands).rows)
-publishes items maker commands a arguments other = Unknown
+publishes items by commands a arguments (Some (item.Start s)) =
+    published commands (start_command by s.name) s.name (verdict.Pass (ran items commands).rows)
+publishes items by commands a arguments (Some (item.Basic b)) =
+    published commands (command_on by (head_of commands) b.name (payload_of (published_values b a arguments))) b.name
+        (meaning.verdict b by.author (published_values b a arguments) (ran items commands).rows)
+publishes items by commands a arguments other = Refused refusal.UnknownAction
 
 -- the action that a name means, with arguments
 abbrev pub acted_by : List Item → Maker → List Command → List ℤ → Option Item → Acted
-acted_by items maker commands arguments (Some (item.Action a)) = publishes items maker commands a arguments (item_named items a.published.name)
-acted_by items maker commands arguments other = Unknown
+acted_by items by commands arguments (Some (item.Action a)) = publishes items by commands a arguments (item_named items a.published.name)
+acted_by items by commands arguments other = Refused refusal.UnknownAction
 
 abbrev pub acted : List Item → Maker → List Command → Name → List ℤ → Acted
-acted items maker commands name arguments = acted_by items maker commands arguments (item_named items name)
+acted items by commands name arguments = acted_by items by commands arguments (item_named items name)

@@ -4,14 +4,16 @@ use Rattle.std.specs.List.{list_all}
 use Rattle.std.specs.Str.{bytes_eq}
 use Rattle.command.specs.declared.command.Command.{Command}
 use Rattle.command.specs.declared.command.Command.TheVariants as command
-use Rattle.command.specs.Wire.{id_of}
+use Rattle.command.specs.Wire.{command_id}
 use Rattle.aranyad.specs.declared.first.policy.Item.{Item}
 use Rattle.aranyad.specs.declared.first.policy.Item.TheVariants as item
 use Rattle.aranyad.specs.declared.first.policy.Basic.{Basic}
 use Rattle.aranyad.specs.declared.first.policy.Bind.{Bind}
-use Rattle.aranyad.specs.declared.first.policy.Check.{Check}
+use Rattle.aranyad.specs.declared.first.policy.Check as checks
 use Rattle.aranyad.specs.declared.first.policy.Construct.{Construct}
 use Rattle.aranyad.specs.declared.first.facts.Row.{Row}
+use Rattle.aranyad.specs.declared.first.verdict.Verdict.{Verdict}
+use Rattle.aranyad.specs.declared.first.verdict.Verdict.TheVariants.{Pass, Check, Exists}
 use Rattle.aranyad.specs.first.Facts.{created}
 use Rattle.aranyad.specs.first.Payload.{fields_of}
 use Rattle.aranyad.specs.first.Sound.{Name, item_named}
@@ -46,26 +48,22 @@ emitted items b values None = []
 emitted items b values (Some c) =
     record { effect = c.name; values = constructed (effect_fields (item_named items c.name)) c.binds b.fields values } ∷ []
 
--- how the policy block of a command ends
-pub data Verdict : Type 0 where
-  Pass : List Row → List Emitted → Verdict
-  Check : Verdict
-  Exists : Verdict
-
-abbrev pub check_holds : Basic → List ℤ → Check → Bool
+abbrev pub check_holds : Basic → List ℤ → checks.Check → Bool
 check_holds b values c = int_lt c.bound (value_of b.fields values c.field)
 
--- the end of the finish: the rows with the new one and the effects, or the fault that the row is there
-abbrev pub finished : List Emitted → Option (List Row) → Verdict
-finished effects None = Exists
-finished effects (Some rows) = Pass rows effects
+-- the row that a command by an author creates
+abbrev pub row_of : Basic → List ℕ → List ℤ → Row
+row_of b author values = record { key = value_of b.fields values b.created.field; holder = author }
+
+-- the end of the finish: the rows with the new one, or the fault that the row is there
+abbrev pub finished : Option (List Row) → Verdict
+finished None = Exists
+finished (Some rows) = Pass rows
 
 -- the policy block of an ordinary command by an author, over rows: its checks in order, and then the finish
-abbrev pub verdict : List Item → Basic → List ℕ → List ℤ → List Row → Verdict
-verdict items b author values rows =
-    if list_all (check_holds b values) b.checks
-    then finished (emitted items b values b.emitted) (created (record { key = value_of b.fields values b.created.field; holder = author }) rows)
-    else Check
+abbrev pub verdict : Basic → List ℕ → List ℤ → List Row → Verdict
+verdict b author values rows =
+    if list_all (check_holds b values) b.checks then finished (created (row_of b author values) rows) else Check
 
 -- what a command does in a run: it passes; or a check fails, and it is recalled by the empty recall block; or it is void
 pub data Outcome : Type 0 where
@@ -79,10 +77,11 @@ pub record Done : Type 0 where
   pub rows : List Row
   pub effects : List Emitted
 
-abbrev pub done : List Row → Verdict → Done
-done rows (Pass after effects) = record { outcome = Passed; rows = after; effects = effects }
-done rows Check = record { outcome = Recalled; rows = rows; effects = [] }
-done rows Exists = record { outcome = Void; rows = rows; effects = [] }
+-- over rows, with the effects that the command emits where it passes
+abbrev pub done : List Row → List Emitted → Verdict → Done
+done rows effects (Pass after) = record { outcome = Passed; rows = after; effects = effects }
+done rows effects Check = record { outcome = Recalled; rows = rows; effects = [] }
+done rows effects Exists = record { outcome = Void; rows = rows; effects = [] }
 
 -- a command that the policy doesn't declare, or whose payload is no value of its fields, is void
 abbrev pub void : List Row → Done
@@ -90,11 +89,11 @@ void rows = record { outcome = Void; rows = rows; effects = [] }
 
 abbrev pub start_done : List Row → Option (List ℤ) → Done
 start_done rows None = void rows
-start_done rows (Some values) = done rows (Pass rows [])
+start_done rows (Some values) = done rows [] (Pass rows)
 
 abbrev pub basic_done : List Item → Basic → List ℕ → List Row → Option (List ℤ) → Done
 basic_done items b author rows None = void rows
-basic_done items b author rows (Some values) = done rows (verdict items b author values rows)
+basic_done items b author rows (Some values) = done rows (emitted items b values b.emitted) (verdict b author values rows)
 
 -- what a call of the command that a name means does, over rows
 abbrev pub call_done : List Item → Option Item → List ℕ → List ℕ → List Row → Done
@@ -121,7 +120,7 @@ pub record Ran : Type 0 where
   pub entries : List Entry
 
 abbrev pub with_entry : Command → Done → Ran → Ran
-with_entry c d rest = record { rows = rest.rows; entries = record { id = id_of c; outcome = d.outcome; effects = d.effects } ∷ rest.entries }
+with_entry c d rest = record { rows = rest.rows; entries = record { id = command_id c; outcome = d.outcome; effects = d.effects } ∷ rest.entries }
 
 abbrev pub ran_from : List Item → List Row → List Command → Ran
 ran_from items rows [] = record { rows = rows; entries = [] }

@@ -12,7 +12,11 @@ use Rattle.aranyad.specs.declared.first.policy.Fact.{Fact}
 use Rattle.aranyad.specs.declared.first.facts.Row.{Row}
 use Rattle.aranyad.specs.declared.first.script.Line.{Line}
 use Rattle.aranyad.specs.declared.first.script.Line.TheVariants.{Replica, Init, Act, Facts}
-use Rattle.aranyad.specs.first.Acting.{Acted, Maker, Tagging, acted, Published, Collides, Unchecked, RowExists, Unknown}
+use Rattle.aranyad.specs.declared.first.acted.Acted.{Acted}
+use Rattle.aranyad.specs.declared.first.acted.Acted.TheVariants.{Published, Refused}
+use Rattle.aranyad.specs.declared.first.acted.Refusal.{Refusal}
+use Rattle.aranyad.specs.declared.first.acted.Refusal.TheVariants as refusal
+use Rattle.aranyad.specs.first.Acting.{Maker, Tagging, acted, maker}
 use Rattle.aranyad.specs.first.Meaning.{ran}
 use Rattle.aranyad.specs.first.Sound.{Name}
 
@@ -33,16 +37,17 @@ verb_text verb name = verb ++ codes " " ++ name ++ codes ": "
 abbrev pub published_text : List Command → List ℕ
 published_text commands = codes "published 1, merges 0, cut " ++ decimal (length commands) ++ codes ", entries 1\n"
 
-abbrev pub refused_text : Name → List ℕ → List ℕ
-refused_text command reason = codes "refused command " ++ command ++ codes ": " ++ reason ++ codes "\n"
+-- why nothing was published
+abbrev pub refusal_text : Refusal → List ℕ
+refusal_text (refusal.Collides id) = codes "refused collision " ++ encode_lower id ++ codes "\n"
+refusal_text (refusal.Check name) = codes "refused command " ++ name ++ codes ": check\n"
+refusal_text (refusal.Exists name) = codes "refused command " ++ name ++ codes ": fault exists\n"
+refusal_text refusal.UnknownAction = codes "refused unknown action\n"
 
 -- an `init` or `act` line: what the action led to; a refusal changes nothing
 abbrev pub acted_step : List ℕ → List Command → Acted → Step
-acted_step begun commands (Published c) = record { commands = commands ++ c ∷ []; text = begun ++ published_text commands }
-acted_step begun commands (Collides id) = record { commands = commands; text = begun ++ codes "refused collision " ++ encode_lower id ++ codes "\n" }
-acted_step begun commands (Unchecked name) = record { commands = commands; text = begun ++ refused_text name (codes "check") }
-acted_step begun commands (RowExists name) = record { commands = commands; text = begun ++ refused_text name (codes "fault exists") }
-acted_step begun commands Unknown = record { commands = commands; text = begun ++ codes "refused unknown action\n" }
+acted_step begun commands (Published c rows) = record { commands = commands ++ c ∷ []; text = begun ++ published_text commands }
+acted_step begun commands (Refused why) = record { commands = commands; text = begun ++ refusal_text why }
 
 -- the fact of the policy
 abbrev pub fact_of : List Item → Option Fact
@@ -62,7 +67,7 @@ facts_text items name rows = codes "facts " ++ name ++ codes ": " ++ decimal (le
 
 -- the maker of a replica's commands: its author is named after it, and the digest is that of the document
 abbrev pub maker_of : Tagging → List ℕ → Name → Maker
-maker_of tagged document name = record { tagged = tagged; digest = sha256 document; author = author_id name }
+maker_of tagged document name = maker tagged (sha256 document) (author_id name)
 
 module _ (tagged : Tagging) (document : List ℕ) (items : List Item) where
   -- what a line leads to, where the replica holds these commands

@@ -125,7 +125,7 @@ with_line items seen (Some line) = if has_place items seen line then Some (seen 
 abbrev pub script_after : List Item → List Line → List (List ℕ) → Result (List Line) ℕ
 script_after items seen [] = Ok seen
 script_after items seen (text ∷ texts) =
-    option_map_or (λ more. script_after items more texts) (Err (length seen + 1)) (with_line items seen (line_of (pieces text)))
+    option_map_or (λ more. script_after items more texts) (with_line items seen (line_of (pieces text))) (Err (length seen + 1))
 
 -- a small script, line by line, or the number of the first line that breaks the form
 abbrev pub script_of : List Item → List ℕ → Result (List Line) ℕ

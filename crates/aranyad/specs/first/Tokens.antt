@@ -8,7 +8,7 @@ use Rattle.std.specs.Str.Parse.{digits_value}
 use Rattle.policy_ast.specs.declared.token.TokenKind.{TokenKind}
 use Rattle.policy_ast.specs.declared.token.TokenKind.TheVariants.{Word, Number, Symbol}
 use Rattle.policy_ast.specs.declared.symbols.TheConstants.{OPEN_BRACE, CLOSE_BRACE, OPEN_BRACKET, CLOSE_BRACKET, OPEN_PAREN, CLOSE_PAREN, COMMA, COLON, PATH, DOT, EQUALS, ARROW, GREATER}
-use Rattle.policy_ast.specs.Words.{is_word_byte}
+use Rattle.base_bytes.specs.Words.{is_word_byte}
 use Rattle.std.specs.Char.{is_ascii_alphabetic, is_ascii_digit}
 
 -- spaces and tabs part tokens

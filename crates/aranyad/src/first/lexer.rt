@@ -2,7 +2,7 @@ ghost use Rattle.std.specs.Prelude.{◌≡◌, IfOk, Option, Some, None, ◌^◌
 ghost use Rattle.std.specs.Char.{is_ascii_digit};
 ghost use Rattle.std.specs.List.{take_while};
 ghost use Rattle.std.specs.Str.Parse.{digits_value};
-ghost use Rattle.policy_ast.specs.Words.{is_word_byte};
+ghost use Rattle.base_bytes.specs.Words.{is_word_byte};
 ghost use Rattle.aranyad.specs.first.Rest.{all_seen, front};
 ghost use Rattle.aranyad.specs.first.Tokens.{is_blank, line_tokens, natural_at, negative_at, piece_at, symbol_of, symbol_piece, word_at};
 

@@ -1,5 +1,5 @@
 use Rattle.std.proofs.Common.{◌∙◌, sym, append-nil}
-use Rattle.aranyad.proofs.Lines.{body_bad, body_last, body_more, body_none, lines_more, with_tokens}
+use Rattle.aranyad.proofs.Bodies.{body_bad, body_last, body_more, body_none, lines_more, with_tokens}
 use Rattle.aranyad.proofs.first.document.closed_body.Goals as goal
 
 pub returns-then-is_empty : goal.returns-then-is_empty

@@ -1,0 +1,35 @@
+ghost use Rattle.std.specs.Prelude.{◌≡◌, ◌++◌, IfOk, OnOk};
+ghost use Rattle.aranyad.specs.first.Payload.{int_bytes, payload_of};
+
+use base_bytes::{Bytes, NoMemory};
+use std::alloc::Global;
+
+/// Adds an int field: eight bytes in two's complement, the highest first.
+#[tactic(auto, unfolding(crate::specs::first::Payload::int_bytes))]
+fn push_int(bytes: &mut Bytes, value: i64) -> Result<(), NoMemory>
+    ensures { OnOk result (bytes.new ≡ bytes.old ++ int_bytes value) }
+{
+    bytes.extend(&value.to_be_bytes())
+}
+
+/// Adds int fields, one after another.
+fn push_ints(bytes: &mut Bytes, values: &[i64]) -> Result<(), NoMemory>
+    ensures { OnOk result (bytes.new ≡ bytes.old ++ payload_of values.now) }
+{
+    match values {
+        [] => Ok(()),
+        [first, values @ ..] => {
+            push_int(bytes, *first)?;
+            push_ints(bytes, values)
+        }
+    }
+}
+
+/// The payload of int fields, of which there are at most 64.
+pub fn payload_of(alloc: Global, values: &[i64]) -> Result<Bytes, NoMemory>
+    ensures { IfOk result (λ bytes. bytes ≡ payload_of values.now) }
+{
+    let mut bytes = Bytes::new(alloc);
+    push_ints(&mut bytes, values)?;
+    Ok(bytes)
+}

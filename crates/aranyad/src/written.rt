@@ -1,0 +1,18 @@
+ghost use Rattle.std.specs.Prelude.{◌≡◌};
+ghost use Rattle.outside.specs.Causes.{HasCause};
+ghost use Rattle.aranyad.specs.Written.{Writes};
+
+use outside::{Failed, Sink};
+
+/// Writes all bytes of a text, however few the sink takes at a time.
+pub fn write_all<K: Sink>(out: &mut K, text: &[u8]) -> Result<(), Failed>
+    ensures written { Writes result text.now (K.written out.old) (K.written out.new) }
+    ensures cause { HasCause (K.faults out.old) (K.faults out.new) result }
+{
+    let mut rest = text;
+    while !rest.is_empty() {
+        let taken = out.write(rest)?;
+        rest = &rest[taken..];
+    }
+    Ok(())
+}

@@ -1,0 +1,99 @@
+-- The form of a command as bytes, version 1. All numbers are big-endian.
+use Rattle.std.specs.Prelude.{◌≡◌, ℕ, ◌<◌, ◌≤◌, ◌^◌, IsTrue, List, [], ◌∷◌, ◌++◌, length, ⊤}
+use Rattle.std.specs.Cmp.Lexicographic.{slice_cmp}
+use Rattle.std.specs.Int.{w16, w32, to_be_bytes}
+use Rattle.std.specs.Ordering.{nat_cmp}
+use Rattle.std.specs.declared.cmp.Ordering.TheVariants.{Less}
+use Rattle.sha2.specs.Sha256.{sha256}
+use Rattle.base_bytes.specs.Payload.{counted}
+use Rattle.base_bytes.specs.Words.{is_word}
+use Rattle.command.specs.declared.command.Command.{Command}
+use Rattle.command.specs.declared.command.Command.TheVariants.{Init, Basic, Finalize, Merge}
+
+-- The version, and the kind of the command.
+abbrev pub header : ℕ → List ℕ
+header kind = 1 ∷ kind ∷ []
+
+-- The name with a length in two bytes, and the payload with a length in four.
+abbrev pub content : List ℕ → List ℕ → List ℕ
+content name payload = to_be_bytes w16 (length name) ++ name ++ counted payload
+
+-- An init before its tag.
+abbrev pub init_body : List ℕ → List ℕ → List ℕ → List ℕ → List ℕ
+init_body digest author name payload = header 0 ++ digest ++ author ++ content name payload
+
+-- A basic command before its tag.
+abbrev pub basic_body : ℕ → List ℕ → List ℕ → List ℕ → List ℕ → List ℕ
+basic_body priority parent author name payload = header 1 ++ to_be_bytes w32 priority ++ parent ++ author ++ content name payload
+
+-- A finalize before its tag.
+abbrev pub finalize_body : List ℕ → List ℕ → List ℕ → List ℕ → List ℕ
+finalize_body parent author name payload = header 2 ++ parent ++ author ++ content name payload
+
+-- A merge, which has no tag.
+abbrev pub merge_body : List ℕ → List ℕ → List ℕ
+merge_body left right = header 3 ++ left ++ right
+
+-- The body: all before the tag's length. It is what a tag seals.
+abbrev pub body : Command → List ℕ
+body (Init digest author name payload tag) = init_body digest author name payload
+body (Basic priority parent author name payload tag) = basic_body priority parent author name payload
+body (Finalize parent author name payload tag) = finalize_body parent author name payload
+body (Merge left right) = merge_body left right
+
+-- A tag with its length in one byte.
+abbrev pub counted_tag : List ℕ → List ℕ
+counted_tag tag = length tag ∷ tag
+
+-- What follows the body.
+abbrev pub after_body : Command → List ℕ
+after_body (Init digest author name payload tag) = counted_tag tag
+after_body (Basic priority parent author name payload tag) = counted_tag tag
+after_body (Finalize parent author name payload tag) = counted_tag tag
+after_body (Merge left right) = []
+
+-- The bytes of a command.
+abbrev pub wire : Command → List ℕ
+wire command = body command ++ after_body command
+
+-- The id of a command: the digest of its bytes.
+abbrev pub command_id : Command → List ℕ
+command_id command = sha256 (wire command)
+
+-- The name is a word, and the payload has at most 4,096 bytes.
+pub record AreContent (name payload : List ℕ) : Type 0 where
+  pub word : IsTrue (is_word name)
+  pub small : length payload ≤ 4096
+
+-- The command is in the wire form, as far as the types of its parts leave that open.
+abbrev pub IsInForm : Command → Type 0
+IsInForm (Init digest author name payload tag) = AreContent name payload
+IsInForm (Basic priority parent author name payload tag) = AreContent name payload
+IsInForm (Finalize parent author name payload tag) = AreContent name payload
+IsInForm (Merge left right) = slice_cmp nat_cmp left right ≡ Less
+
+-- Two ids have 32 bytes each.
+pub record AreIds (one other : List ℕ) : Type 0 where
+  pub one_size : length one ≡ 32
+  pub other_size : length other ≡ 32
+
+-- The numbers and ids before the name are of their types.
+abbrev pub HasFront : Command → Type 0
+HasFront (Init digest author name payload tag) = AreIds digest author
+HasFront (Basic priority parent author name payload tag) = (priority < 2 ^ 32) × AreIds parent author
+HasFront (Finalize parent author name payload tag) = AreIds parent author
+HasFront (Merge left right) = AreIds left right
+
+-- The tag has at most 64 bytes.
+abbrev pub HasTag : Command → Type 0
+HasTag (Init digest author name payload tag) = length tag ≤ 64
+HasTag (Basic priority parent author name payload tag) = length tag ≤ 64
+HasTag (Finalize parent author name payload tag) = length tag ≤ 64
+HasTag (Merge left right) = ⊤
+
+-- The relation between a command and its bytes. It also says what the types of the parts say, for a reader of bytes who has no command yet.
+pub record IsWire (command : Command) (told : List ℕ) : Type 0 where
+  pub in_form : IsInForm command
+  pub front : HasFront command
+  pub tag : HasTag command
+  pub spelled : told ≡ wire command

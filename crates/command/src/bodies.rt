@@ -1,0 +1,76 @@
+ghost use Rattle.std.specs.Prelude.{◌≡◌, IfOk};
+ghost use Rattle.command.specs.Wire as form;
+
+use crate::command::Command;
+use crate::writing::{write, write_basic, write_body, write_finalize, write_init};
+use base_bytes::{Bytes, Id, NoMemory, Text};
+use std::alloc::Global;
+
+/// The bytes of a command.
+pub fn to_bytes(alloc: Global, command: &Command) -> Result<Bytes, NoMemory>
+    requires { form.IsInForm command.now }
+    ensures { IfOk result (λ bytes. form.IsWire command.now bytes) }
+{
+    let mut bytes = Bytes::new(alloc);
+    write(&mut bytes, command)?;
+    Ok(bytes)
+}
+
+/// The part of a command that its tag seals: all before the tag's length. A merge has no tag, and is its own body.
+pub fn body_of(alloc: Global, command: &Command) -> Result<Bytes, NoMemory>
+    requires { form.IsInForm command.now }
+    ensures { IfOk result (λ bytes. bytes ≡ form.body command.now) }
+{
+    let mut bytes = Bytes::new(alloc);
+    write_body(&mut bytes, command)?;
+    Ok(bytes)
+}
+
+/// The body of an init that has no tag yet.
+pub fn init_body(
+    alloc: Global,
+    digest: &Id,
+    author: &Id,
+    name: &Text,
+    payload: &Bytes,
+) -> Result<Bytes, NoMemory>
+    requires { form.AreContent name.now payload.now }
+    ensures { IfOk result (λ bytes. bytes ≡ form.init_body digest.now author.now name.now payload.now) }
+{
+    let mut bytes = Bytes::new(alloc);
+    write_init(&mut bytes, digest, author, name, payload)?;
+    Ok(bytes)
+}
+
+/// The body of a basic command that has no tag yet.
+pub fn basic_body(
+    alloc: Global,
+    priority: u32,
+    parent: &Id,
+    author: &Id,
+    name: &Text,
+    payload: &Bytes,
+) -> Result<Bytes, NoMemory>
+    requires { form.AreContent name.now payload.now }
+    ensures { IfOk result (λ bytes. bytes ≡ form.basic_body priority parent.now author.now name.now payload.now) }
+{
+    let mut bytes = Bytes::new(alloc);
+    write_basic(&mut bytes, priority, parent, author, name, payload)?;
+    Ok(bytes)
+}
+
+/// The body of a finalize that has no tag yet.
+pub fn finalize_body(
+    alloc: Global,
+    parent: &Id,
+    author: &Id,
+    name: &Text,
+    payload: &Bytes,
+) -> Result<Bytes, NoMemory>
+    requires { form.AreContent name.now payload.now }
+    ensures { IfOk result (λ bytes. bytes ≡ form.finalize_body parent.now author.now name.now payload.now) }
+{
+    let mut bytes = Bytes::new(alloc);
+    write_finalize(&mut bytes, parent, author, name, payload)?;
+    Ok(bytes)
+}
