@@ -4,6 +4,7 @@ pub mod Parting
 pub mod Formats
 pub mod Bodies
 pub mod Sounding
+pub mod Indexing
 pub mod Reader
 pub mod Rows
 pub mod Grammar

@@ -4,6 +4,7 @@ pub mod acted;
 pub mod document;
 pub mod facts;
 mod forms;
+mod index;
 mod lexer;
 pub mod lines;
 pub mod lookup;
