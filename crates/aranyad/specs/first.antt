@@ -5,6 +5,7 @@ pub mod Tokens
 pub mod Document
 pub mod Framing
 pub mod Sound
+pub mod Shapes
 pub mod Indexing
 pub mod Script
 pub mod Facts

@@ -30,7 +30,7 @@ impl Name {
         ensures found { IsSome result ↔ IsTrue (is_name text) }
         ensures value { IfSome result (λ n. n ≡ text) }
     {
-        if is_name(text.as_str()) {
+        if is_name(text.as_slice()) {
             Some(Name { text })
         } else {
             None
@@ -74,11 +74,11 @@ impl Eq for Name {
     ghost laws = { Prim.search rules };
 }
 
-/// Whether a text is a name: a word that isn't reserved.
-pub fn is_name(text: &str) -> bool
-    ensures { result ≡ is_name text.now }
+/// Whether bytes are a name: a word that isn't reserved.
+pub fn is_name(bytes: &[u8]) -> bool
+    ensures { result ≡ is_name bytes.now }
 {
-    is_word(text.as_bytes()) && !is_reserved(text)
+    is_word(bytes) && !is_reserved(bytes)
 }
 
 /// The words that the grammar keeps for itself.
@@ -127,14 +127,14 @@ const RESERVED: [&str; 41] = [
 ];
 
 #[tactic(auto, unfolding(crate::specs::Words::is_reserved))]
-fn is_reserved(word: &str) -> bool
+fn is_reserved(word: &[u8]) -> bool
     ensures { result ≡ is_reserved word.now }
 {
     is_among(&RESERVED, word)
 }
 
-fn is_among(words: &[&str], word: &str) -> bool
+fn is_among(words: &[&str], word: &[u8]) -> bool
     ensures { result ≡ list_any (λ other. bytes_eq word.now other.now) words.now }
 {
-    words.iter().any(|other| word == *other)
+    words.iter().any(|other| word == other.as_bytes())
 }

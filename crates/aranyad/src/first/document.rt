@@ -36,7 +36,7 @@ fn read(alloc: Global, document: &[u8]) -> Result<Option<SmallPolicy>, NoMemory>
     let Some(items) = items(alloc, tokens.as_slice())? else {
         return Ok(None);
     };
-    if is_sound(items.as_slice()) {
+    if is_sound(alloc, items.as_slice())? {
         Ok(Some(SmallPolicy { items }))
     } else {
         Ok(None)

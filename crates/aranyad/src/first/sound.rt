@@ -1,24 +1,56 @@
 //! Whether the items of a small policy are well typed.
 
-ghost use Rattle.std.specs.Prelude.{◌≡◌, ◌&&◌, map};
+ghost use Rattle.std.specs.Prelude.{◌≡◌, ◌&&◌, map, IfOk};
 ghost use Rattle.std.specs.List.{count_by, list_all, list_any};
 ghost use Rattle.std.specs.Str.{bytes_eq};
 ghost use Rattle.std.specs.Option.{option_copied};
 ghost use Rattle.policy_ast.specs.Words.{is_name};
+ghost use Rattle.aranyad.specs.first.Shapes.{is_shaped, is_short};
 ghost use Rattle.aranyad.specs.first.Sound.{action_is_sound, are_distinct, are_fields, basic_is_sound, binds_fit, body_is_sound, creates, emission_is_sound, emits, fact_is_sound, is_among, is_fact, is_sound, is_start, item_is_sound, item_named, name_of, publishes};
 
-use crate::first::policy::{Action, Basic, Bind, Construct, Effect, Fact, Item};
-use base_bytes::Text;
+use crate::first::index::Index;
+use crate::first::lookup::name_of;
+use crate::first::policy::{Action, Basic, Bind, Construct, Fact, Item};
+use base_bytes::{NoMemory, Text};
 use policy_ast::is_name;
+use std::alloc::Global;
 
-/// Whether items make a small policy: one fact, one command that begins a graph, and each item well typed beside the others.
-pub fn is_sound(items: &[Item]) -> bool
-    ensures { result ≡ is_sound items.now }
+/// Whether items make a small policy: one fact, one command that begins a graph, and each item well typed beside the
+/// others. No list that is too long is looked through, and each name is looked up in an index.
+pub fn is_sound(alloc: Global, items: &[Item]) -> Result<bool, NoMemory>
+    ensures { IfOk result (λ b. b ≡ is_sound items.now) }
 {
-    fact_count(items) == 1
-        && start_count(items) == 1
-        && have_distinct_names(items)
-        && are_sound(items)
+    if !is_shaped(items) {
+        return Ok(false);
+    }
+    match Index::new(alloc, items)? {
+        Some(index) => Ok(are_sound(&index)),
+        None => Ok(false),
+    }
+}
+
+fn is_shaped(items: &[Item]) -> bool
+    ensures { result ≡ is_shaped items.now }
+{
+    fact_count(items) == 1 && start_count(items) == 1 && are_short(items)
+}
+
+fn are_short(items: &[Item]) -> bool
+    ensures { result ≡ list_all is_short items.now }
+{
+    items.iter().all(|item| is_short(item))
+}
+
+/// Whether an item's list of fields or parameters is short enough.
+fn is_short(item: &Item) -> bool
+    ensures { result ≡ is_short item.now }
+{
+    match item {
+        Item::Effect(effect) => effect.fields.len() <= 64,
+        Item::Basic(basic) => basic.fields.len() <= 64,
+        Item::Action(action) => action.parameters.len() <= 64,
+        _ => true,
+    }
 }
 
 fn fact_count(items: &[Item]) -> usize
@@ -45,10 +77,10 @@ fn start_count(items: &[Item]) -> usize
     count
 }
 
-fn are_sound(items: &[Item]) -> bool
-    ensures { result ≡ list_all (item_is_sound items.now) items.now }
+fn are_sound(index: &Index) -> bool
+    ensures { result ≡ list_all (item_is_sound index.now) index.now }
 {
-    items.iter().all(|item| item_is_sound(items, item))
+    index.items().iter().all(|item| item_is_sound(index, item))
 }
 
 fn is_fact(item: &Item) -> bool
@@ -63,80 +95,40 @@ fn is_start(item: &Item) -> bool
     matches!(item, Item::Start(_))
 }
 
-fn name_of(item: &Item) -> &Text
-    ensures { result.now ≡ name_of item.now }
+fn item_is_sound(index: &Index, item: &Item) -> bool
+    ensures { result ≡ item_is_sound index.now item.now }
 {
-    match item {
-        Item::Fact(fact) => &fact.name,
-        Item::Effect(effect) => &effect.name,
-        Item::Start(start) => &start.name,
-        Item::Basic(basic) => &basic.name,
-        Item::Action(action) => &action.name,
-    }
+    let name = name_of(item);
+    is_name(name) && name != b"Envelope".as_slice() && body_is_sound(index, item)
 }
 
-/// What a name means: the first item that has it.
-fn item_named<'a>(items: &'a [Item], name: &Text) -> Option<&'a Item>
-    ensures { option_copied result ≡ item_named items.now name.now }
-{
-    items.iter().find(|item| *name_of(item) == *name)
-}
-
-fn have_distinct_names(items: &[Item]) -> bool
-    ensures { result ≡ are_distinct (map name_of items.now) }
-{
-    match items {
-        [] => true,
-        [first, rest @ ..] => !is_named(name_of(first), rest) && have_distinct_names(rest),
-    }
-}
-
-fn is_named(name: &Text, items: &[Item]) -> bool
-    ensures { result ≡ is_among name.now (map name_of items.now) }
-{
-    any_has_name(name, items)
-}
-
-fn any_has_name(name: &Text, items: &[Item]) -> bool
-    ensures { result ≡ list_any (λ i. bytes_eq name.now (name_of i)) items.now }
-{
-    items.iter().any(|item| *name == *name_of(item))
-}
-
-fn item_is_sound(items: &[Item], item: &Item) -> bool
-    ensures { result ≡ item_is_sound items.now item.now }
-{
-    let name = name_of(item).as_str();
-    is_name(name) && name != "Envelope" && body_is_sound(items, item)
-}
-
-fn body_is_sound(items: &[Item], item: &Item) -> bool
-    ensures { result ≡ body_is_sound items.now item.now }
+fn body_is_sound(index: &Index, item: &Item) -> bool
+    ensures { result ≡ body_is_sound index.now item.now }
 {
     match item {
         Item::Fact(fact) => fact_is_sound(fact),
         Item::Effect(effect) => are_fields(effect.fields.as_slice()),
         Item::Start(_) => true,
-        Item::Basic(basic) => basic_is_sound(items, basic),
-        Item::Action(action) => action_is_sound(items, action),
+        Item::Basic(basic) => basic_is_sound(index, basic),
+        Item::Action(action) => action_is_sound(index, action),
     }
 }
 
 fn fact_is_sound(fact: &Fact) -> bool
     ensures { result ≡ fact_is_sound fact.now }
 {
-    is_name(fact.key.as_str()) && is_name(fact.value.as_str()) && fact.key != fact.value
+    is_name(fact.key.as_slice()) && is_name(fact.value.as_slice()) && fact.key != fact.value
 }
 
-fn basic_is_sound(items: &[Item], basic: &Basic) -> bool
-    ensures { result ≡ basic_is_sound items.now basic.now }
+fn basic_is_sound(index: &Index, basic: &Basic) -> bool
+    ensures { result ≡ basic_is_sound index.now basic.now }
 {
     are_fields(basic.fields.as_slice())
         && checks_are_sound(basic)
-        && is_name(basic.author.as_str())
+        && is_name(basic.author.as_slice())
         && basic.author.as_str() != "envelope"
-        && creates(item_named(items, &basic.created.fact), basic)
-        && emission_is_sound(items, basic)
+        && creates(index.find(basic.created.fact.as_slice()), basic)
+        && emission_is_sound(index, basic)
 }
 
 fn checks_are_sound(basic: &Basic) -> bool
@@ -166,12 +158,12 @@ fn creates(fact: Option<&Item>, basic: &Basic) -> bool
     }
 }
 
-fn emission_is_sound(items: &[Item], basic: &Basic) -> bool
-    ensures { result ≡ emission_is_sound items.now basic.now basic.now.emitted }
+fn emission_is_sound(index: &Index, basic: &Basic) -> bool
+    ensures { result ≡ emission_is_sound index.now basic.now basic.now.emitted }
 {
     match &basic.emitted {
         None => true,
-        Some(emitted) => emits(item_named(items, &emitted.name), basic, emitted),
+        Some(emitted) => emits(index.find(emitted.name.as_slice()), basic, emitted),
     }
 }
 
@@ -188,11 +180,11 @@ fn emits(effect: Option<&Item>, basic: &Basic, emitted: &Construct) -> bool
     }
 }
 
-fn action_is_sound(items: &[Item], action: &Action) -> bool
-    ensures { result ≡ action_is_sound items.now action.now }
+fn action_is_sound(index: &Index, action: &Action) -> bool
+    ensures { result ≡ action_is_sound index.now action.now }
 {
     are_fields(action.parameters.as_slice())
-        && publishes(item_named(items, &action.published.name), action)
+        && publishes(index.find(action.published.name.as_slice()), action)
 }
 
 fn publishes(command: Option<&Item>, action: &Action) -> bool
@@ -251,7 +243,7 @@ fn are_fields(names: &[Text]) -> bool
 fn are_names(names: &[Text]) -> bool
     ensures { result ≡ list_all is_name names.now }
 {
-    names.iter().all(|name| is_name(name.as_str()))
+    names.iter().all(|name| is_name(name.as_slice()))
 }
 
 fn are_distinct(names: &[Text]) -> bool
