@@ -25,3 +25,18 @@ take-behind n m xs is = ap (λ l. take n xs ++ l) (take_all m (drop n xs) (omega
 pub wrote_nothing : (text : List ℕ) (old : Option (List ℕ)) → WritesBut text text old old
 wrote_nothing text None = record { part = []; whole = refl; added = refl }
 wrote_nothing text (Some xs) = record { part = []; whole = refl; added = ap Some (sym (append-nil xs)) }
+
+-- a front of one piece more
+pub front_more : (text rest piece behind : List ℕ) (old mid new : Option (List ℕ)) → piece ++ behind ≡ rest → WritesBut text rest old mid → WritesFront piece mid new → WritesFront text old new
+front_more text rest piece behind old mid new parts so_far front = record {
+  rest = front.rest ++ behind;
+  so_far = wrote_more text rest front.so_far.part (front.rest ++ behind) old mid new
+      (sym (append_assoc front.so_far.part front.rest behind) ∙ ap (λ l. l ++ behind) front.so_far.whole ∙ parts) so_far front.so_far.added;
+}
+
+-- an end before anything was written, and an end with nothing left
+pub front_of_none : (text : List ℕ) (old : Option (List ℕ)) → WritesFront text old old
+front_of_none text old = record { rest = text; so_far = wrote_nothing text old }
+
+pub front_so_far : (text rest : List ℕ) (old new : Option (List ℕ)) → WritesBut text rest old new → WritesFront text old new
+front_so_far text rest old new so_far = record { rest = rest; so_far = so_far }

@@ -62,7 +62,7 @@ named_again items name i is =
 pub named_is_sound : (items : List Item) (name : Name) (i : Item) → is_sound items ≡ true → item_named items name ≡ Some i → item_is_sound items i ≡ true
 named_is_sound items name i sound is =
     find_is_among (λ j. bytes_eq (name_of j) name) (item_is_sound items) items i is
-        (last_of_four (count_by is_fact items == 1) (count_by is_start items == 1) (are_distinct (map name_of items)) (list_all (item_is_sound items) items) sound)
+    (last_of_four (count_by is_fact items == 1) (count_by is_start items == 1) (are_distinct (map name_of items)) (list_all (item_is_sound items) items) sound)
 
 -- one command more: the rows after a run are what that command leaves of the rows before it
 pub ran_from-append : (items : List Item) (rows : List Row) (commands : List Command) (c : Command) →

@@ -1,5 +1,6 @@
 -- The definitions that the contracts of this crate cite.
 pub mod first
+pub mod Ending
 pub mod Modes
 pub mod Outcome
 pub mod Status

@@ -1,9 +1,10 @@
 -- What a run of the program prints and how it ends: a function of the words, the files and the script's lines, once it is
 -- said which policy the document is.
-use Rattle.std.specs.Prelude.{◌≡◌, ℕ, nat_lt, ◌++◌, ◌^◌, if◌then◌else◌, List, [], ◌∷◌, length, codes, Option, Some, None, Result, Ok, Err, MatchOption}
+use Rattle.std.specs.Prelude.{◌≡◌, ℕ, nat_lt, ◌++◌, ◌^◌, if◌then◌else◌, List, [], ◌∷◌, length, codes, Option, Some, None, Result, Ok, Err, MatchResult}
 use Rattle.std.specs.List.{concat}
 use Rattle.std.specs.Fmt.{decimal}
 use Rattle.std.specs.Io.KnownBytes.{append_known}
+use Rattle.sha2.specs.Sha256.{sha256}
 use Rattle.outside.specs.Files.{Holding}
 use Rattle.aranyad.specs.declared.mode.Mode.{Mode}
 use Rattle.aranyad.specs.declared.mode.Mode.TheVariants.{Run}
@@ -16,6 +17,9 @@ use Rattle.aranyad.specs.first.Document.{IsReading}
 use Rattle.aranyad.specs.first.Running.{texts}
 use Rattle.aranyad.specs.first.Script.{script_of}
 use Rattle.aranyad.specs.Modes.{mode_of}
+use Rattle.aranyad.specs.Ending.{ending_status}
+use Rattle.aranyad.specs.declared.ending.Ending.{Ending}
+use Rattle.aranyad.specs.declared.ending.Halt.{Halt}
 use Rattle.aranyad.specs.Written.{WritesFront}
 
 -- how a run ends, and the pieces that it writes, each whole before the next begins
@@ -47,10 +51,10 @@ abbrev pub limited : ℕ → Option (List ℕ) → Option (Option (List ℕ))
 limited limit None = None
 limited limit (Some file) = Some (if nat_lt limit (length file) then None else Some file)
 
-module _ (tagged : Tagging) (document : List ℕ) (policy : SmallPolicy) where
+module _ (tagged : Tagging) (digest : List ℕ) (policy : SmallPolicy) where
   -- the script's lines are run in order, or its first bad line is named
   abbrev pub lines_outcome : Result (List Line) ℕ → Outcome
-  lines_outcome (Ok lines) = record { status = status.Done; pieces = texts tagged document policy.items [] lines }
+  lines_outcome (Ok lines) = record { status = status.Done; pieces = texts tagged digest policy.items [] lines }
   lines_outcome (Err line) = refused status.ScriptRefused (codes "script refused: line " ++ decimal line)
 
   abbrev pub script_outcome : Option (Option (List ℕ)) → Outcome
@@ -61,7 +65,7 @@ module _ (tagged : Tagging) (document : List ℕ) (policy : SmallPolicy) where
 -- a document that is no small policy is refused, before the script is read
 abbrev pub reading_outcome : Tagging → List ℕ → Option (Option (List ℕ)) → Option SmallPolicy → Outcome
 reading_outcome tagged document script None = refused status.PolicyRefused (codes "policy refused: unbuilt")
-reading_outcome tagged document script (Some policy) = script_outcome tagged document policy script
+reading_outcome tagged document script (Some policy) = script_outcome tagged (sha256 document) policy script
 
 -- a run over the policy's file and the script's
 abbrev pub RunsFiles : Tagging → Option (Option (List ℕ)) → Option (Option (List ℕ)) → Outcome → Type 0
@@ -88,3 +92,10 @@ Follows status.DiskFault outcome old new = WritesFront (text_of outcome) old new
 Follows status.SealFault outcome old new = WritesFront (text_of outcome) old new
 Follows status.NoMemory outcome old new = WritesFront (text_of outcome) old new
 Follows end outcome old new = (end ≡ outcome.status) × (new ≡ append_known old (text_of outcome))
+
+-- the same of a part of the run, by how it ended
+abbrev pub RunsTo : Result Ending Halt → Outcome → Option (List ℕ) → Option (List ℕ) → Type 0
+RunsTo result outcome old new =
+    MatchResult result
+        (λ ending. (ending_status ending ≡ outcome.status) × (new ≡ append_known old (text_of outcome)))
+        (λ _. WritesFront (text_of outcome) old new)

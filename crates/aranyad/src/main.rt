@@ -2,8 +2,10 @@
 #![tactic(auto)]
 
 mod choose;
+mod ending;
 mod first;
 mod mode;
+mod run;
 mod status;
 mod written;
 

@@ -12,6 +12,7 @@ use Rattle.aranyad.specs.declared.first.policy.Basic.{Basic}
 use Rattle.aranyad.specs.declared.first.acted.Acted.{Acted}
 use Rattle.aranyad.specs.declared.first.acted.Acted.TheVariants.{Published, Refused}
 use Rattle.aranyad.specs.declared.first.acted.Refusal.TheVariants as refusal
+use Rattle.aranyad.specs.declared.first.facts.Row.{Row}
 use Rattle.aranyad.specs.declared.first.verdict.Verdict.{Verdict}
 use Rattle.aranyad.specs.declared.first.verdict.Verdict.TheVariants as verdict
 use Rattle.aranyad.specs.first.Meaning as meaning
@@ -42,9 +43,9 @@ command_on by parent name payload =
     command.Basic 0 parent by.author name payload (by.tagged by.author (basic_body 0 parent by.author name payload))
 
 -- the id of the last command, which the next one has as its parent
-abbrev pub head_of : List Command → List ℕ
-head_of [] = []
-head_of (c ∷ []) = command_id c
+abbrev pub head_of : List Command → Option (List ℕ)
+head_of [] = None
+head_of (c ∷ []) = Some (command_id c)
 head_of (c ∷ d ∷ commands) = head_of (d ∷ commands)
 
 abbrev pub is_held : List Command → List ℕ → Bool
@@ -64,13 +65,18 @@ published commands c name end = if is_held commands (command_id c) then Refused 
 abbrev pub published_values : Basic → Action → List ℤ → List ℤ
 published_values b a arguments = constructed b.fields a.published.binds a.parameters arguments
 
+-- an ordinary command of these values on a head, over rows
+abbrev pub publishes_basic : Maker → List Command → List Row → Basic → List ℤ → Option (List ℕ) → Acted
+publishes_basic by commands rows b values None = Refused refusal.NoGraph
+publishes_basic by commands rows b values (Some head) =
+    published commands (command_on by head b.name (payload_of values)) b.name (meaning.verdict b by.author values rows)
+
 -- the publish of an action, where the name of its command means this item
 abbrev pub publishes : List Item → Maker → List Command → Action → List ℤ → Option Item → Acted
 publishes items by commands a arguments (Some (item.Start s)) =
     published commands (start_command by s.name) s.name (verdict.Pass (ran items commands).rows)
 publishes items by commands a arguments (Some (item.Basic b)) =
-    published commands (command_on by (head_of commands) b.name (payload_of (published_values b a arguments))) b.name
-        (meaning.verdict b by.author (published_values b a arguments) (ran items commands).rows)
+    publishes_basic by commands (ran items commands).rows b (published_values b a arguments) (head_of commands)
 publishes items by commands a arguments other = Refused refusal.UnknownAction
 
 -- the action that a name means, with arguments

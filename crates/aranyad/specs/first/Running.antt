@@ -3,7 +3,6 @@ use Rattle.std.specs.Prelude.{ℕ, ℤ, ◌+◌, ◌-◌, List, [], ◌∷◌, �
 use Rattle.std.specs.List.{concat, flat_map}
 use Rattle.std.specs.Fmt.{decimal, signed_decimal}
 use Rattle.hex.specs.Hex.{encode_lower}
-use Rattle.sha2.specs.Sha256.{sha256}
 use Rattle.command.specs.declared.command.Command.{Command}
 use Rattle.outside.specs.Envelope.{author_id}
 use Rattle.aranyad.specs.declared.first.policy.Item.{Item}
@@ -26,28 +25,30 @@ pub record Step : Type 0 where
   pub text : List ℕ
 
 -- `replica name holds number`
-abbrev pub replica_text : Name → List Command → List ℕ
-replica_text name commands = codes "replica " ++ name ++ codes " holds " ++ decimal (length commands) ++ codes "\n"
+abbrev pub replica_text : Name → ℕ → List ℕ
+replica_text name held = concat (codes "replica " ∷ name ∷ codes " holds " ∷ decimal held ∷ codes "\n" ∷ [])
 
--- the beginning of the text of an `init` or `act` line
-abbrev pub verb_text : List ℕ → Name → List ℕ
-verb_text verb name = verb ++ codes " " ++ name ++ codes ": "
-
--- one command was published: on one chain the run before is the front of the run after, and one entry is new
-abbrev pub published_text : List Command → List ℕ
-published_text commands = codes "published 1, merges 0, cut " ++ decimal (length commands) ++ codes ", entries 1\n"
+-- one command was published, where so many were held: on one chain the run before is the front of the run after, and
+-- one entry is new
+abbrev pub published_text : List ℕ → Name → ℕ → List ℕ
+published_text verb name held =
+    concat (verb ∷ codes " " ∷ name ∷ codes ": published 1, merges 0, cut " ∷ decimal held ∷ codes ", entries 1\n" ∷ [])
 
 -- why nothing was published
-abbrev pub refusal_text : Refusal → List ℕ
-refusal_text (refusal.Collides id) = codes "refused collision " ++ encode_lower id ++ codes "\n"
-refusal_text (refusal.Check name) = codes "refused command " ++ name ++ codes ": check\n"
-refusal_text (refusal.Exists name) = codes "refused command " ++ name ++ codes ": fault exists\n"
-refusal_text refusal.UnknownAction = codes "refused unknown action\n"
+abbrev pub reason_text : Refusal → List ℕ
+reason_text (refusal.Collides id) = concat (codes "collision " ∷ encode_lower id ∷ [])
+reason_text (refusal.Check name) = concat (codes "command " ∷ name ∷ codes ": check" ∷ [])
+reason_text (refusal.Exists name) = concat (codes "command " ∷ name ∷ codes ": fault exists" ∷ [])
+reason_text refusal.NoGraph = codes "no graph"
+reason_text refusal.UnknownAction = codes "unknown action"
+
+abbrev pub refused_text : List ℕ → Name → Refusal → List ℕ
+refused_text verb name why = concat (verb ∷ codes " " ∷ name ∷ codes ": refused " ∷ reason_text why ∷ codes "\n" ∷ [])
 
 -- an `init` or `act` line: what the action led to; a refusal changes nothing
-abbrev pub acted_step : List ℕ → List Command → Acted → Step
-acted_step begun commands (Published c rows) = record { commands = commands ++ c ∷ []; text = begun ++ published_text commands }
-acted_step begun commands (Refused why) = record { commands = commands; text = begun ++ refusal_text why }
+abbrev pub acted_step : List ℕ → Name → List Command → Acted → Step
+acted_step verb name commands (Published c rows) = record { commands = commands ++ c ∷ []; text = published_text verb name (length commands) }
+acted_step verb name commands (Refused why) = record { commands = commands; text = refused_text verb name why }
 
 -- the fact of the policy
 abbrev pub fact_of : List Item → Option Fact
@@ -56,25 +57,28 @@ fact_of (item.Fact f ∷ items) = Some f
 fact_of (other ∷ items) = fact_of items
 
 -- `  name[key: number]=>{value: id:hex}`
-abbrev pub row_text : Option Fact → Row → List ℕ
-row_text None row = []
-row_text (Some f) row =
-    codes "  " ++ f.name ++ codes "[" ++ f.key ++ codes ": " ++ signed_decimal row.key ++ codes "]=>{" ++ f.value ++ codes ": id:" ++ encode_lower row.holder ++ codes "}\n"
+abbrev pub row_text : Fact → Row → List ℕ
+row_text f row =
+    concat (codes "  " ∷ f.name ∷ codes "[" ∷ f.key ∷ codes ": " ∷ signed_decimal row.key ∷ codes "]=>{" ∷ f.value ∷ codes ": id:" ∷ encode_lower row.holder ∷ codes "}\n" ∷ [])
+
+abbrev pub rows_text : Option Fact → List Row → List ℕ
+rows_text None rows = []
+rows_text (Some f) rows = flat_map (row_text f) rows
 
 -- `facts name: number`, and a line for each row
 abbrev pub facts_text : List Item → Name → List Row → List ℕ
-facts_text items name rows = codes "facts " ++ name ++ codes ": " ++ decimal (length rows) ++ codes "\n" ++ flat_map (row_text (fact_of items)) rows
+facts_text items name rows = concat (codes "facts " ∷ name ∷ codes ": " ∷ decimal (length rows) ∷ codes "\n" ∷ rows_text (fact_of items) rows ∷ [])
 
--- the maker of a replica's commands: its author is named after it, and the digest is that of the document
+-- the maker of a replica's commands: its author is named after it
 abbrev pub maker_of : Tagging → List ℕ → Name → Maker
-maker_of tagged document name = maker tagged (sha256 document) (author_id name)
+maker_of tagged digest name = maker tagged digest (author_id name)
 
-module _ (tagged : Tagging) (document : List ℕ) (items : List Item) where
-  -- what a line leads to, where the replica holds these commands
+module _ (tagged : Tagging) (digest : List ℕ) (items : List Item) where
+  -- what a line leads to, where the replica holds these commands; the digest is that of the policy's document
   abbrev pub step : List Command → Line → Step
-  step commands (Replica a) = record { commands = commands; text = replica_text a commands }
-  step commands (Init a f) = acted_step (verb_text (codes "init") a) commands (acted items (maker_of tagged document a) commands f [])
-  step commands (Act a g ns) = acted_step (verb_text (codes "act") a) commands (acted items (maker_of tagged document a) commands g ns)
+  step commands (Replica a) = record { commands = commands; text = replica_text a (length commands) }
+  step commands (Init a f) = acted_step (codes "init") a commands (acted items (maker_of tagged digest a) commands f [])
+  step commands (Act a g ns) = acted_step (codes "act") a commands (acted items (maker_of tagged digest a) commands g ns)
   step commands (Facts a) = record { commands = commands; text = facts_text items a (ran items commands).rows }
 
   -- the texts of lines in order

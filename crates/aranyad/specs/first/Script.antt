@@ -4,15 +4,16 @@ use Rattle.std.specs.List.{list_all, filter, flat_map, slice_split}
 use Rattle.std.specs.Option.{option_map_or}
 use Rattle.std.specs.Str.{byte, bytes_eq}
 use Rattle.std.specs.Str.Lines.{lines}
-use Rattle.policy_ast.specs.declared.token.TokenKind.{TokenKind}
+use Rattle.base_bytes.specs.Words.{is_word}
 use Rattle.policy_ast.specs.declared.token.TokenKind.TheVariants.{Number}
 use Rattle.aranyad.specs.declared.first.policy.Item.{Item}
 use Rattle.aranyad.specs.declared.first.policy.Item.TheVariants as item
-use Rattle.aranyad.specs.declared.first.policy.Action.{Action}
 use Rattle.aranyad.specs.declared.first.script.Line.{Line}
 use Rattle.aranyad.specs.declared.first.script.Line.TheVariants.{Replica, Init, Act, Facts}
+use Rattle.aranyad.specs.declared.first.script.Script.{Script}
+use Rattle.aranyad.specs.declared.first.script.Script.TheVariants.{Lines, Refused}
 use Rattle.aranyad.specs.first.Sound.{Name, item_named}
-use Rattle.aranyad.specs.first.Tokens.{line_tokens}
+use Rattle.aranyad.specs.first.Tokens.{Piece, piece_at}
 
 -- the marks that are pieces of their own
 abbrev pub is_mark : ℕ → Bool
@@ -22,9 +23,17 @@ is_mark c = c == byte "(" || (c == byte ")" || c == byte ",")
 abbrev pub set_apart : ℕ → List ℕ
 set_apart c = if is_mark c then byte " " ∷ c ∷ byte " " ∷ [] else c ∷ []
 
--- the pieces of a line: marks, and what stands between spaces and marks
-abbrev pub pieces : List ℕ → List (List ℕ)
-pieces line = filter (λ piece. not (length piece == 0)) (slice_split (λ b. b == byte " ") (flat_map set_apart line))
+-- the byte that parts pieces; tabs are bytes like others
+abbrev pub is_space : ℕ → Bool
+is_space c = c == byte " "
+
+-- a byte that is neither a mark nor a space
+abbrev pub is_plain : ℕ → Bool
+is_plain c = not (is_mark c || is_space c)
+
+-- the pieces of a line: its marks, and what stands between spaces and marks
+unfoldable pub pieces : List ℕ → List (List ℕ)
+pieces line = filter (λ piece. not (length piece == 0)) (slice_split is_space (flat_map set_apart line))
 
 -- a small letter, a digit or `_`
 abbrev pub is_replica_byte : ℕ → Bool
@@ -32,30 +41,33 @@ is_replica_byte c = (nat_le (byte "a") c && nat_le c (byte "z")) || ((nat_le (by
 
 -- the name of a replica: 1 to 16 of these
 abbrev pub is_replica : Name → Bool
-is_replica name = nat_le 1 (length name) && (nat_le (length name) 16 && list_all is_replica_byte name)
+is_replica name = list_all is_replica_byte name && not (length name == 0) && nat_le (length name) 16
+
+-- a token that is a number, with nothing behind it
+abbrev pub whole_number : Option Piece → Option ℤ
+whole_number (Some (Number n, [])) = Some n
+whole_number other = None
 
 -- the number that a piece is, as one token of the policy language
-abbrev pub number_token : Option (List TokenKind) → Option ℤ
-number_token (Some (Number n ∷ [])) = Some n
-number_token other = None
-
 abbrev pub number_of : List ℕ → Option ℤ
-number_of piece = number_token (line_tokens piece)
+number_of piece = whole_number (piece_at piece)
+
+-- whether the closing mark is all that is left
+abbrev pub is_end : List (List ℕ) → Bool
+is_end (mark ∷ []) = bytes_eq mark (codes ")")
+is_end other = false
 
 -- numbers with commas between them, and the closing mark behind the last
 abbrev pub numbers_of : List (List ℕ) → Option (List ℤ)
 numbers_of [] = None
 numbers_of (piece ∷ []) = None
 numbers_of (piece ∷ mark ∷ more) =
-    if bytes_eq mark (codes ",") then option_and_then (λ n. option_map (λ ns. n ∷ ns) (numbers_of more)) (number_of piece)
-    else if bytes_eq mark (codes ")") && length more == 0 then option_map (λ n. n ∷ []) (number_of piece)
-    else None
+    let behind = if is_end (mark ∷ more) then Some [] else if bytes_eq mark (codes ",") then numbers_of more else None in
+    option_and_then (λ n. option_map (λ ns. n ∷ ns) behind) (number_of piece)
 
 -- what stands behind the opening mark: arguments, none of them or more, and the closing mark
 abbrev pub arguments_of : List (List ℕ) → Option (List ℤ)
-arguments_of [] = None
-arguments_of (mark ∷ []) = if bytes_eq mark (codes ")") then Some [] else None
-arguments_of (piece ∷ mark ∷ more) = numbers_of (piece ∷ mark ∷ more)
+arguments_of pieces = if is_end pieces then Some [] else numbers_of pieces
 
 -- `init replica action()`
 abbrev pub init_line : Name → Name → Option (List ℤ) → Option Line
@@ -76,19 +88,24 @@ plain_line verb a =
     else if bytes_eq verb (codes "facts") then Some (Facts a)
     else None
 
+-- what stands behind the name of the replica: nothing, or an action and its arguments between marks
+abbrev pub line_for : Name → Name → List (List ℕ) → Option Line
+line_for verb a [] = plain_line verb a
+line_for verb a (f ∷ []) = None
+line_for verb a (f ∷ mark ∷ more) = if is_word f && bytes_eq mark (codes "(") then call_line verb a f (arguments_of more) else None
+
 -- the line that pieces make
 abbrev pub line_of : List (List ℕ) → Option Line
 line_of [] = None
 line_of (verb ∷ []) = None
-line_of (verb ∷ a ∷ []) = if is_replica a then plain_line verb a else None
-line_of (verb ∷ a ∷ f ∷ []) = None
-line_of (verb ∷ a ∷ f ∷ mark ∷ rest) =
-    if is_replica a && bytes_eq mark (codes "(") then call_line verb a f (arguments_of rest) else None
+line_of (verb ∷ a ∷ more) = if is_replica a then line_for verb a more else None
 
+-- the command that begins a graph
 abbrev pub is_start : Option Item → Bool
 is_start (Some (item.Start s)) = true
 is_start other = false
 
+-- another command
 abbrev pub is_basic : Option Item → Bool
 is_basic (Some (item.Basic b)) = true
 is_basic other = false
@@ -130,3 +147,8 @@ script_after items seen (text ∷ texts) =
 -- a small script, line by line, or the number of the first line that breaks the form
 abbrev pub script_of : List Item → List ℕ → Result (List Line) ℕ
 script_of items script = script_after items [] (lines script)
+
+-- what a reading of a script says of it
+abbrev pub said : Script → Result (List Line) ℕ
+said (Lines lines) = Ok lines
+said (Refused line) = Err line

@@ -20,6 +20,7 @@ pub enum Refusal {
     Check(Text),
     /// The row that the named command creates is there already.
     Exists(Text),
-    /// No such action. A small script has none that comes to this.
+    /// No command is held that the new one could stand on. A small script comes to none of these last two.
+    NoGraph,
     UnknownAction,
 }

@@ -54,7 +54,7 @@ fn is_blank(byte: u8) -> bool
 
 /// The token that bytes begin with, the longest one, and the bytes behind it.
 #[tactic(auto, unfolding(crate::specs::first::Tokens::piece_at))]
-fn piece_at(alloc: Global, bytes: &[u8]) -> Result<Option<(TokenKind, &[u8])>, NoMemory>
+pub fn piece_at(alloc: Global, bytes: &[u8]) -> Result<Option<(TokenKind, &[u8])>, NoMemory>
     ensures { IfOk result (λ o. all_seen o ≡ piece_at bytes.now) }
 {
     let Some((first, behind)) = front(bytes) else {

@@ -1,8 +1,9 @@
-ghost use Rattle.std.specs.Prelude.{◌≡◌, IsTrue, IfOk};
+ghost use Rattle.std.specs.Prelude.{[], IsTrue, IfOk};
 ghost use Rattle.base_bytes.specs.Words.{is_word};
+ghost use Rattle.command.specs.Wire as form;
 ghost use Rattle.command.specs.Wire.{AreContent, IsInForm};
-ghost use Rattle.aranyad.specs.first.Acting as acting;
-ghost use Rattle.aranyad.specs.first.Making.{IsMade, SealHasCause};
+ghost use Rattle.command.specs.declared.command.Command.TheVariants as command;
+ghost use Rattle.aranyad.specs.first.Making.{IsTagged, SealHasCause};
 
 use crate::first::stop::Stop;
 use base_bytes::{Bytes, Id, Text};
@@ -11,6 +12,7 @@ use outside::Envelope;
 use std::alloc::Global;
 
 /// Who makes commands, and under which document: the author's id and the document's digest.
+#[derive(Clone, Copy)]
 pub struct Maker {
     pub digest: Id,
     pub author: Id,
@@ -24,7 +26,7 @@ pub fn start_command<E: Envelope>(
     env: &mut E,
 ) -> Result<Command, Stop>
     requires { IsTrue (is_word name.now) }
-    ensures made { IfOk result (IsMade E.tag_of (λ tagged. acting.start_command (acting.maker tagged maker.now.digest maker.now.author) name.now)) }
+    ensures tagged { IfOk result (IsTagged E.tag_of maker.now.author (form.init_body maker.now.digest maker.now.author name.now []) (command.Init maker.now.digest maker.now.author name.now [])) }
     ensures form { IfOk result IsInForm }
     ensures cause { SealHasCause (E.faults env.old) (E.faults env.new) result }
 {
@@ -53,7 +55,7 @@ pub fn basic_command<E: Envelope>(
     env: &mut E,
 ) -> Result<Command, Stop>
     requires { AreContent name.now payload }
-    ensures made { IfOk result (IsMade E.tag_of (λ tagged. acting.command_on (acting.maker tagged maker.now.digest maker.now.author) parent name.now payload)) }
+    ensures tagged { IfOk result (IsTagged E.tag_of maker.now.author (form.basic_body 0 parent maker.now.author name.now payload) (command.Basic 0 parent maker.now.author name.now payload)) }
     ensures form { IfOk result IsInForm }
     ensures cause { SealHasCause (E.faults env.old) (E.faults env.new) result }
 {

@@ -1,5 +1,5 @@
-ghost use Rattle.std.specs.Prelude.{◌≡◌, ◌++◌, IfOk, OnOk};
-ghost use Rattle.aranyad.specs.first.Payload.{int_bytes, payload_of};
+ghost use Rattle.std.specs.Prelude.{◌≡◌, ◌++◌, Some, length, IfOk, OnOk};
+ghost use Rattle.aranyad.specs.first.Payload.{fields_of, int_bytes, payload_of};
 
 use base_bytes::{Bytes, NoMemory};
 use std::alloc::Global;
@@ -14,7 +14,8 @@ fn push_int(bytes: &mut Bytes, value: i64) -> Result<(), NoMemory>
 
 /// Adds int fields, one after another.
 fn push_ints(bytes: &mut Bytes, values: &[i64]) -> Result<(), NoMemory>
-    ensures { OnOk result (bytes.new ≡ bytes.old ++ payload_of values.now) }
+    ensures added { OnOk result (bytes.new ≡ bytes.old ++ payload_of values.now) }
+    ensures read { OnOk result (fields_of (length values.now) (payload_of values.now) ≡ Some values.now) }
 {
     match values {
         [] => Ok(()),
@@ -25,9 +26,10 @@ fn push_ints(bytes: &mut Bytes, values: &[i64]) -> Result<(), NoMemory>
     }
 }
 
-/// The payload of int fields, of which there are at most 64.
+/// The payload of int fields, of which there are at most 64. It is read as the same fields again.
 pub fn payload_of(alloc: Global, values: &[i64]) -> Result<Bytes, NoMemory>
-    ensures { IfOk result (λ bytes. bytes ≡ payload_of values.now) }
+    ensures written { IfOk result (λ bytes. bytes ≡ payload_of values.now) }
+    ensures read { IfOk result (λ bytes. fields_of (length values.now) bytes ≡ Some values.now) }
 {
     let mut bytes = Bytes::new(alloc);
     push_ints(&mut bytes, values)?;

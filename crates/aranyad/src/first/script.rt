@@ -13,3 +13,12 @@ pub enum Line {
     /// `facts name`
     Facts(Text),
 }
+
+/// What a text is as a small script.
+#[derive(Drop)]
+pub enum Script {
+    /// Its lines, in order.
+    Lines(Items<Line>),
+    /// The number of the first line that breaks the form, from 1.
+    Refused(u32),
+}

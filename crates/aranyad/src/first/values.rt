@@ -63,9 +63,6 @@ pub fn constructed(
 pub fn checks_hold(basic: &Basic, values: &[i64]) -> bool
     ensures { result ≡ list_all (check_holds basic.now values.now) basic.now.checks }
 {
-    basic
-        .checks
-        .as_slice()
-        .iter()
-        .all(|check| check.bound < value_of(basic.fields.as_slice(), values, check.field.as_slice()))
+    basic.checks.as_slice().iter().all(|check| check.bound
+        < value_of(basic.fields.as_slice(), values, check.field.as_slice()))
 }

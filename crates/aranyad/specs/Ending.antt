@@ -1,0 +1,70 @@
+-- How a run ends, by its statuses; and which counts must have risen where it was halted.
+use Rattle.std.specs.Prelude.{◌≡◌, ◌≢◌, ℕ, ◌≤◌, List, Option, Some, Result, Ok, Err, OnErr}
+use Rattle.outside.specs.Causes.{Rose}
+use Rattle.aranyad.specs.declared.ending.Ending.{Ending}
+use Rattle.aranyad.specs.declared.ending.Ending.TheVariants as ending
+use Rattle.aranyad.specs.declared.ending.Halt.{Halt}
+use Rattle.aranyad.specs.declared.ending.Halt.TheVariants as halt
+use Rattle.aranyad.specs.declared.first.stop.Stop.{Stop}
+use Rattle.aranyad.specs.declared.first.stop.Stop.TheVariants as stop
+use Rattle.aranyad.specs.declared.status.Status.{Status}
+use Rattle.aranyad.specs.declared.status.Status.TheVariants as status
+
+abbrev pub ending_status : Ending → Status
+ending_status ending.Done = status.Done
+ending_status ending.PolicyRefused = status.PolicyRefused
+ending_status ending.Usage = status.Usage
+ending_status ending.ScriptRefused = status.ScriptRefused
+ending_status ending.TooLarge = status.TooLarge
+
+abbrev pub halt_status : Halt → Status
+halt_status halt.Read = status.ReadFault
+halt_status halt.Write = status.WriteFault
+halt_status halt.Seal = status.SealFault
+halt_status halt.Memory = status.NoMemory
+
+abbrev pub halt_of : Stop → Halt
+halt_of stop.Seal = halt.Seal
+halt_of stop.Memory = halt.Memory
+
+-- the counts of faults of the files, of the envelope and of the sink
+pub record Counts : Type 0 where
+  pub files : ℕ
+  pub seals : ℕ
+  pub writes : ℕ
+
+abbrev pub counts : ℕ → ℕ → ℕ → Counts
+counts files seals writes = record { files = files; seals = seals; writes = writes }
+
+-- no count fell, and a halt by a device needs that its count rose
+pub record HaltsWithCause {T : Type 0} (old new : Counts) (result : Result T Halt) : Type 0 where
+  pub later_files : old.files ≤ new.files
+  pub later_seals : old.seals ≤ new.seals
+  pub later_writes : old.writes ≤ new.writes
+  pub read : result ≡ Err halt.Read → Rose old.files new.files
+  pub seal : result ≡ Err halt.Seal → Rose old.seals new.seals
+  pub write : result ≡ Err halt.Write → Rose old.writes new.writes
+
+-- where a read halted, the latest failed read is of the file with this name
+abbrev pub NamesFile : {T : Type 0} → List ℕ → Option (List ℕ) → Result T Halt → Type 0
+NamesFile name last result = result ≡ Err halt.Read → last ≡ Some name
+
+-- the same of a read of one file, which no other device halts
+pub record ReadHalts {T : Type 0} (name : List ℕ) (old new : ℕ) (last : Option (List ℕ)) (result : Result T Halt) : Type 0 where
+  pub later : old ≤ new
+  pub failed : result ≡ Err halt.Read → Rose old new × (last ≡ Some name)
+  pub no_seal : result ≢ Err halt.Seal
+  pub no_write : result ≢ Err halt.Write
+
+-- the same of a write
+pub record WriteHalts {T : Type 0} (old new : ℕ) (result : Result T Halt) : Type 0 where
+  pub later : old ≤ new
+  pub failed : OnErr result ((result ≡ Err halt.Write) × Rose old new)
+
+-- the same of lines that are run: the envelope and the sink alone may halt them
+pub record LinesHalt {T : Type 0} (seals_old seals_new writes_old writes_new : ℕ) (result : Result T Halt) : Type 0 where
+  pub later_seals : seals_old ≤ seals_new
+  pub later_writes : writes_old ≤ writes_new
+  pub no_read : result ≢ Err halt.Read
+  pub seal : result ≡ Err halt.Seal → Rose seals_old seals_new
+  pub write : result ≡ Err halt.Write → Rose writes_old writes_new

@@ -1,0 +1,135 @@
+ghost use Rattle.std.specs.Prelude.{◌≡◌, ◌<◌, ◌^◌, [], ◌∷◌, ◌++◌, Some, IsTrue, IfOk, IfSome, codes};
+ghost use Rattle.std.specs.List.{concat};
+ghost use Rattle.std.specs.Fmt.{decimal};
+ghost use Rattle.aranyad.specs.Ending.{HaltsWithCause, LinesHalt, NamesFile, ReadHalts, WriteHalts, counts, ending_status};
+ghost use Rattle.aranyad.specs.Outcome.{RunsTo, limited, refused, script_limit, script_outcome};
+ghost use Rattle.aranyad.specs.declared.status.Status.TheVariants as status;
+ghost use Rattle.aranyad.specs.Written.{Writes};
+ghost use Rattle.aranyad.specs.first.Running.{texts};
+ghost use Rattle.aranyad.specs.first.Sound.{is_sound};
+
+use crate::ending::{Ending, Halt};
+use crate::first::policy::{Item, SmallPolicy};
+use crate::first::replica::{Replica, step};
+use crate::first::script::{Line, Script};
+use crate::first::script_reader::read_script;
+use crate::first::texts::joined;
+use crate::written::write_all;
+use base_bytes::{Bytes, Id, Text};
+use outside::{Envelope, Files, ReadFail, Sink};
+use sqlite_items::Items;
+use std::alloc::Global;
+
+/// A script has at most so many bytes.
+const SCRIPT_LIMIT: u64 = 4_194_304;
+
+/// A file's bytes, and None where it has more than the limit.
+fn read_limited<F: Files>(
+    alloc: Global,
+    files: &mut F,
+    name: Text,
+    limit: u64,
+) -> Result<Option<Bytes>, Halt>
+    requires { limit < 2 ^ 32 }
+    ensures found { IfOk result (λ found. IfSome (F.holds files.old) (λ at. limited limit (at name) ≡ Some found)) }
+    ensures holds { F.holds files.new ≡ F.holds files.old }
+    ensures cause { ReadHalts name (F.faults files.old) (F.faults files.new) (F.last files.new) result }
+{
+    match files.read(alloc, name, limit) {
+        Ok(bytes) => {
+            if bytes.len() as u64 > limit {
+                Ok(None)
+            } else {
+                Ok(Some(bytes))
+            }
+        }
+        Err(ReadFail::Failed) => Err(Halt::Read),
+        Err(ReadFail::NoMemory) => Err(Halt::Memory),
+    }
+}
+
+/// Writes the line of a refusal, its line feed with it, and answers the ending.
+fn refuse<K: Sink>(out: &mut K, ending: Ending, line: &[u8]) -> Result<Ending, Halt>
+    ensures run { RunsTo result (record { status = ending_status ending; pieces = line.now ∷ [] }) (K.written out.old) (K.written out.new) }
+    ensures cause { WriteHalts (K.faults out.old) (K.faults out.new) result }
+{
+    match write_all(out, line) {
+        Ok(()) => Ok(ending),
+        Err(_) => Err(Halt::Write),
+    }
+}
+
+/// Writes which line of a script is refused.
+fn refuse_line<K: Sink>(alloc: Global, out: &mut K, line: u32) -> Result<Ending, Halt>
+    ensures run { RunsTo result (refused status.ScriptRefused (codes "script refused: line " ++ decimal line)) (K.written out.old) (K.written out.new) }
+    ensures cause { WriteHalts (K.faults out.old) (K.faults out.new) result }
+{
+    let number = match line.to_string(alloc) {
+        Ok(number) => number,
+        Err(_) => return Err(Halt::Memory),
+    };
+    let text = joined(alloc, &["script refused: line ", number.as_str(), "\n"])?;
+    refuse(out, Ending::ScriptRefused, text.as_slice())
+}
+
+/// Runs the lines of a script in order, and writes the text of each before the next begins.
+fn run_lines<E: Envelope, K: Sink>(
+    alloc: Global,
+    digest: &Id,
+    items: &[Item],
+    lines: &[Line],
+    env: &mut E,
+    out: &mut K,
+) -> Result<(), Halt>
+    requires { IsTrue (is_sound items.now) }
+    ensures written {
+        IfSome E.tag_of (λ tagged. Writes result (concat (texts tagged digest.now items.now [] lines.now)) (K.written out.old) (K.written out.new))
+    }
+    ensures cause { LinesHalt (E.faults env.old) (E.faults env.new) (K.faults out.old) (K.faults out.new) result }
+{
+    let mut replica = Replica {
+        commands: Items::new(alloc),
+        rows: Items::new(alloc),
+    };
+    for line in lines {
+        let text = step(alloc, digest, items, &mut replica, line, env)?;
+        match write_all(out, text.as_slice()) {
+            Ok(()) => {}
+            Err(_) => return Err(Halt::Write),
+        }
+    }
+    Ok(())
+}
+
+/// Runs the script's file under a policy, whose document has this digest.
+fn run_script<F: Files, E: Envelope, K: Sink>(
+    alloc: Global,
+    digest: &Id,
+    policy: &SmallPolicy,
+    script: Text,
+    files: &mut F,
+    env: &mut E,
+    out: &mut K,
+) -> Result<Ending, Halt>
+    requires { IsTrue (is_sound policy.now.items) }
+    ensures run {
+        IfSome (F.holds files.old) (λ at. IfSome E.tag_of (λ tagged.
+            RunsTo result (script_outcome tagged digest.now policy.now (limited script_limit (at script))) (K.written out.old) (K.written out.new)))
+    }
+    ensures cause {
+        HaltsWithCause (counts (F.faults files.old) (E.faults env.old) (K.faults out.old)) (counts (F.faults files.new) (E.faults env.new) (K.faults out.new)) result
+    }
+    ensures name { NamesFile script (F.last files.new) result }
+{
+    let bytes = match read_limited(alloc, files, script, SCRIPT_LIMIT)? {
+        Some(bytes) => bytes,
+        None => return refuse(out, Ending::TooLarge, b"too large: script\n"),
+    };
+    match read_script(alloc, policy.items.as_slice(), bytes.as_slice())? {
+        Script::Lines(lines) => {
+            run_lines(alloc, digest, policy.items.as_slice(), lines.as_slice(), env, out)?;
+            Ok(Ending::Done)
+        }
+        Script::Refused(line) => refuse_line(alloc, out, line),
+    }
+}

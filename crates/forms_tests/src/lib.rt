@@ -1,0 +1,11 @@
+//! Tests of the forms of bytes: what no contract says, against values that come from outside.
+#![tactic(auto)]
+
+#[cfg(test)]
+mod commands;
+#[cfg(test)]
+mod keys;
+#[cfg(test)]
+mod lists;
+#[cfg(test)]
+mod payloads;
