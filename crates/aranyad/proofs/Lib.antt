@@ -17,3 +17,4 @@ pub mod ScriptLines
 pub mod Sounding
 pub mod Standing
 pub mod Runs
+pub mod Readings

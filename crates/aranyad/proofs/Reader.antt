@@ -134,7 +134,7 @@ read_is_small document policy is =
     }))))
 
 -- a small policy is read
-small_is_read : (document : List ℕ) (policy : SmallPolicy) → IsSmall document policy → read_document document ≡ Some policy
+pub small_is_read : (document : List ℕ) (policy : SmallPolicy) → IsSmall document policy → read_document document ≡ Some policy
 small_is_read document policy small =
     let opened = opening_behind document (small.body ++ closing_line ∷ []) small.framed in
     let closes : closed_body (lines opened.rest) ≡ Some (spelling policy.items) = ap closed_body opened.left ∙ closed_is small.body ∙ small.spelled in

@@ -32,3 +32,15 @@ told_from (Some at) (Some tagged) F P Q step f p = step at tagged f p
 -- a halt before anything was written
 pub halted_at_once : (outcome : Outcome) (halt : Halt) (old : Option (List ℕ)) → RunsTo (Err halt) outcome old old
 halted_at_once outcome halt old = front_of_none (text_of outcome) old
+
+pub told_map : (holds : Option Holding) (told : Option Tagging) (P Q : Holding → Tagging → Type 0) → ((at : Holding) (tagged : Tagging) → P at tagged → Q at tagged) →
+    IfSome holds (λ at. IfSome told (P at)) → IfSome holds (λ at. IfSome told (Q at))
+told_map None told P Q step p = tt
+told_map (Some at) None P Q step p = tt
+told_map (Some at) (Some tagged) P Q step p = step at tagged p
+
+pub told_after : (holds : Option Holding) (told : Option Tagging) (F : Holding → Type 0) (Q : Holding → Tagging → Type 0) → ((at : Holding) (tagged : Tagging) → F at → Q at tagged) →
+    IfSome holds F → IfSome holds (λ at. IfSome told (Q at))
+told_after None told F Q step f = tt
+told_after (Some at) None F Q step f = tt
+told_after (Some at) (Some tagged) F Q step f = step at tagged f
