@@ -18,3 +18,4 @@ pub mod Sounding
 pub mod Standing
 pub mod Runs
 pub mod Readings
+pub mod Following

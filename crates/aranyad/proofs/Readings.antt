@@ -3,11 +3,13 @@ use Rattle.std.proofs.Common.{◌≡◌, ℕ, List, Option, Some, None, Result, 
 use Rattle.aranyad.specs.declared.ending.Ending.{Ending}
 use Rattle.aranyad.specs.declared.ending.Halt.{Halt}
 use Rattle.aranyad.specs.declared.status.Status.TheVariants as status
+use Rattle.outside.specs.Files.{Holding}
+use Rattle.aranyad.specs.declared.mode.Mode.{Mode}
 use Rattle.aranyad.specs.declared.first.policy.SmallPolicy.{SmallPolicy}
 use Rattle.aranyad.specs.first.Acting.{Tagging}
 use Rattle.aranyad.specs.first.Document.{IsReading, IsSmall}
 use Rattle.aranyad.specs.first.Framing.{read_document}
-use Rattle.aranyad.specs.Outcome.{Outcome, RunsFiles, RunsTo, reading_outcome, refused}
+use Rattle.aranyad.specs.Outcome.{Outcome, RunsFiles, RunsMode, RunsTo, reading_outcome, refused, usage_line}
 use Rattle.aranyad.proofs.Reader.{reading, small_is_read}
 
 -- two readings of a document are the same
@@ -43,3 +45,9 @@ files_read tagged (Some (Some d)) script document result old new is runs outcome
     let reads : IsReading document of.0 = subst (λ (l : List ℕ). IsReading l of.0) same of.1 in
     let outcome_is : outcome ≡ reading_outcome tagged document script of.0 = of.2 ∙ ap (λ (l : List ℕ). reading_outcome tagged l script of.0) same in
     subst (λ (o : Outcome). RunsTo result o old new) (sym outcome_is) (runs of.0 reads)
+
+-- words of no mode
+pub usage_runs : (tagged : Tagging) (at : Holding) (mode : Option Mode) (result : Result Ending Halt) (old new : Option (List ℕ)) → mode ≡ None →
+    RunsTo result (refused status.Usage usage_line) old new → (outcome : Outcome) → RunsMode tagged at mode outcome → RunsTo result outcome old new
+usage_runs tagged at None result old new is runs outcome of = subst (λ (o : Outcome). RunsTo result o old new) (sym of) runs
+usage_runs tagged at (Some m) result old new is runs outcome of = absurd (cc)

@@ -6,6 +6,7 @@ mod ending;
 mod first;
 mod mode;
 mod run;
+mod run_command;
 mod stages;
 mod status;
 mod written;
