@@ -23,7 +23,7 @@ use Rattle.aranyad.proofs.Lexing.{front_is}
 behind_is : (expected : List ℕ) (ls rest : Lines) → behind_line expected ls ≡ Some rest → ls ≡ expected ∷ rest
 behind_is expected ls rest is = bind_then (front ls) _ rest is (λ p begins same.
     if_then (bytes_eq p.0 expected) (Some p.1) None rest same (λ here there.
-      front_is ls p.0 p.1 (sym begins) ∙ ap (λ l. l ∷ p.1) ((bytes_eq-Decides p.0 expected).0 here) ∙ ap (λ r. expected ∷ r) (same_some p.1 rest there)))
+    front_is ls p.0 p.1 (sym begins) ∙ ap (λ l. l ∷ p.1) ((bytes_eq-Decides p.0 expected).0 here) ∙ ap (λ r. expected ∷ r) (same_some p.1 rest there)))
 
 -- the opening lines
 opening_is : (ls rest : Lines) → behind_opening ls ≡ Some rest → ls ≡ opening_lines ++ rest
@@ -31,10 +31,10 @@ opening_is ls rest is =
     bind_then (option_and_then (behind_line (codes "---")) (option_and_then (behind_line (codes "policy-version: 2")) (behind_line (codes "---") ls))) (behind_line (codes "```policy")) rest is (λ third is fourth.
     bind_then (option_and_then (behind_line (codes "policy-version: 2")) (behind_line (codes "---") ls)) (behind_line (codes "---")) third is (λ second is here.
     bind_then (behind_line (codes "---") ls) (behind_line (codes "policy-version: 2")) second is (λ first is there.
-      behind_is (codes "---") ls first is
-      ∙ ap (λ r. codes "---" ∷ r) (behind_is (codes "policy-version: 2") first second there
-        ∙ ap (λ r. codes "policy-version: 2" ∷ r) (behind_is (codes "---") second third here
-          ∙ ap (λ r. codes "---" ∷ r) (behind_is (codes "```policy") third rest fourth))))))
+    behind_is (codes "---") ls first is
+    ∙ ap (λ r. codes "---" ∷ r) (behind_is (codes "policy-version: 2") first second there
+    ∙ ap (λ r. codes "policy-version: 2" ∷ r) (behind_is (codes "---") second third here
+    ∙ ap (λ r. codes "---" ∷ r) (behind_is (codes "```policy") third rest fourth))))))
 
 opening_behind : (others : Lines) → behind_opening (opening_lines ++ others) ≡ Some others
 opening_behind others = refl
@@ -68,19 +68,19 @@ read_is_small document policy is =
     bind_then (option_and_then closed_body (behind_opening (lines document))) read_items xs is (λ ts is reads.
     bind_then (behind_opening (lines document)) closed_body ts is (λ rest opens closes.
     bind_then (without_closing rest) lines_tokens ts closes (λ body ends spelled.
-      sound_is document xs policy sound (λ true_sound. record {
-        body = body;
-        framed = opening_is (lines document) rest opens ∙ ap (λ r. opening_lines ++ r) (closing_is rest body ends);
-        spelled = spelled ∙ ap Some (read_is_spelled ts xs reads);
-        sound = true_sound
-      })))))
+    sound_is document xs policy sound (λ true_sound. record {
+      body = body;
+      framed = opening_is (lines document) rest opens ∙ ap (λ r. opening_lines ++ r) (closing_is rest body ends);
+      spelled = spelled ∙ ap Some (read_is_spelled ts xs reads);
+      sound = true_sound;
+    })))))
 
 -- a small policy is read
 small_is_read : (document : List ℕ) (policy : SmallPolicy) → IsSmall document policy → read_document document ≡ Some policy
 small_is_read document policy small =
     let opens : behind_opening (lines document) ≡ Some (small.body ++ closing_line ∷ []) = ap behind_opening small.framed ∙ opening_behind (small.body ++ closing_line ∷ []) in
     let closes : closed_body (small.body ++ closing_line ∷ []) ≡ Some (spelling policy.items) =
-      ap (option_and_then lines_tokens) (closing_behind small.body) ∙ small.spelled in
+    ap (option_and_then lines_tokens) (closing_behind small.body) ∙ small.spelled in
     rw (opens, closes, spelled_is_read (spelling policy.items) policy.items refl, small.sound) refl
 
 reading_by : (document : List ℕ) (o : Option SmallPolicy) → o ≡ read_document document → IsReading document o

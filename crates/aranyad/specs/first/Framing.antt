@@ -28,7 +28,7 @@ behind_line expected ls = option_and_then (λ p. if bytes_eq p.0 expected then S
 abbrev pub behind_opening : Lines → Option Lines
 behind_opening ls =
     option_and_then (behind_line (codes "```policy"))
-      (option_and_then (behind_line (codes "---")) (option_and_then (behind_line (codes "policy-version: 2")) (behind_line (codes "---") ls)))
+    (option_and_then (behind_line (codes "---")) (option_and_then (behind_line (codes "policy-version: 2")) (behind_line (codes "---") ls)))
 
 -- the lines before the last one, where that is the closing line
 unfoldable pub without_closing : Lines → Option Lines

@@ -80,7 +80,11 @@ fn without_closing<'a, 'b>(lines: &'a [&'b [u8]]) -> Option<&'a [&'b [u8]]>
         return None;
     }
     let last = lines.len() - 1;
-    if is_closing(lines[last]) { Some(&lines[..last]) } else { None }
+    if is_closing(lines[last]) {
+        Some(&lines[..last])
+    } else {
+        None
+    }
 }
 
 fn body_tokens(alloc: Global, lines: &[&[u8]]) -> Result<Option<Items<TokenKind>>, NoMemory>
