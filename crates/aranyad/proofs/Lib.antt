@@ -19,3 +19,4 @@ pub mod Standing
 pub mod Runs
 pub mod Readings
 pub mod Following
+pub mod OneOutcome

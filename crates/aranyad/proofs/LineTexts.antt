@@ -19,7 +19,6 @@ line_and_behind lines i line lt is =
 
 module _ (told : Option Tagging) (digest : List ℕ) (items : List Item) (total : Tagging → List ℕ) (lines : List Line) (i : ℕ) (line : Line)
     (commands new : List Command) (text : List ℕ) (old mid after : Option (List ℕ)) (lt : i < length lines) (is : line ≡ get_or lines i line) where
-
   -- the text of the line, and the texts behind it
   parts : (tagged : Tagging) → step tagged digest items commands line ≡ record { commands = new; text = text } →
       text ++ concat (texts tagged digest items new (drop (i + 1) lines)) ≡ concat (texts tagged digest items commands (drop i lines))
@@ -31,10 +30,11 @@ module _ (told : Option Tagging) (digest : List ℕ) (items : List Item) (total 
       IfSome told (λ tagged. WritesBut (total tagged) (concat (texts tagged digest items new (drop (i + 1) lines))) old after)
   line_written so_far led more =
       elim told as (λ t. IfSome t (λ tagged. WritesBut (total tagged) (concat (texts tagged digest items commands (drop i lines))) old mid) →
-          Leads t (λ tagged. step tagged digest items commands line) new text →
-          IfSome t (λ tagged. WritesBut (total tagged) (concat (texts tagged digest items new (drop (i + 1) lines))) old after))
-      [ None ↦ λ s l. tt
-      | Some tagged ↦ λ s l. wrote_more (total tagged) _ text _ old mid after (parts tagged l) s more ] so_far led
+      Leads t (λ tagged. step tagged digest items commands line) new text →
+      IfSome t (λ tagged. WritesBut (total tagged) (concat (texts tagged digest items new (drop (i + 1) lines))) old after)) [
+        | None ↦ λ s l. tt
+        | Some tagged ↦ λ s l. wrote_more (total tagged) _ text _ old mid after (parts tagged l) s more
+      ] so_far led
 
   -- a front of a line's text was written
   pub line_halted : IfSome told (λ tagged. WritesBut (total tagged) (concat (texts tagged digest items commands (drop i lines))) old mid) →
@@ -42,7 +42,8 @@ module _ (told : Option Tagging) (digest : List ℕ) (items : List Item) (total 
       IfSome told (λ tagged. WritesFront (total tagged) old after)
   line_halted so_far led front =
       elim told as (λ t. IfSome t (λ tagged. WritesBut (total tagged) (concat (texts tagged digest items commands (drop i lines))) old mid) →
-          Leads t (λ tagged. step tagged digest items commands line) new text →
-          IfSome t (λ tagged. WritesFront (total tagged) old after))
-      [ None ↦ λ s l. tt
-      | Some tagged ↦ λ s l. front_more (total tagged) _ text _ old mid after (parts tagged l) s front ] so_far led
+      Leads t (λ tagged. step tagged digest items commands line) new text →
+      IfSome t (λ tagged. WritesFront (total tagged) old after)) [
+        | None ↦ λ s l. tt
+        | Some tagged ↦ λ s l. front_more (total tagged) _ text _ old mid after (parts tagged l) s front
+      ] so_far led

@@ -97,5 +97,5 @@ Follows end outcome old new = (end ≡ outcome.status) × (new ≡ append_known 
 abbrev pub RunsTo : Result Ending Halt → Outcome → Option (List ℕ) → Option (List ℕ) → Type 0
 RunsTo result outcome old new =
     MatchResult result
-        (λ ending. (ending_status ending ≡ outcome.status) × (new ≡ append_known old (text_of outcome)))
-        (λ _. WritesFront (text_of outcome) old new)
+    (λ ending. (ending_status ending ≡ outcome.status) × (new ≡ append_known old (text_of outcome)))
+    (λ _. WritesFront (text_of outcome) old new)

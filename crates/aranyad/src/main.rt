@@ -6,6 +6,7 @@ ghost use Rattle.std.specs.Prelude.{◌≡◌, IfOk, vec_len};
 mod choose;
 mod ending;
 mod first;
+pub mod laws;
 mod mode;
 mod run;
 mod run_command;
@@ -42,7 +43,14 @@ fn run_on_host(rt: HostRuntime) -> Result<Status, NoMemory> {
     let mut files = HostFiles::new(&rt);
     let mut env = TagEnvelope;
     let mut out = HostSink::new(io::writer(&rt));
-    Ok(run_command(alloc, words.as_slice(), &mut files, &mut disks, &mut env, &mut out))
+    Ok(run_command(
+        alloc,
+        words.as_slice(),
+        &mut files,
+        &mut disks,
+        &mut env,
+        &mut out,
+    ))
 }
 
 fn main(rt: HostRuntime) -> ExitCode {

@@ -74,9 +74,7 @@ fn run_lines<E: Envelope, K: Sink>(
     out: &mut K,
 ) -> Result<(), Halt>
     requires { IsTrue (is_sound items.now) }
-    ensures written {
-        IfSome E.tag_of (λ tagged. Writes result (concat (texts tagged digest.now items.now [] lines.now)) (K.written out.old) (K.written out.new))
-    }
+    ensures written { IfSome E.tag_of (λ tagged. Writes result (concat (texts tagged digest.now items.now [] lines.now)) (K.written out.old) (K.written out.new)) }
     ensures cause { LinesHalt (E.faults env.old) (E.faults env.new) (K.faults out.old) (K.faults out.new) result }
 {
     let mut replica = Replica {
@@ -104,9 +102,7 @@ pub fn run_bytes<E: Envelope, K: Sink>(
     out: &mut K,
 ) -> Result<Ending, Halt>
     requires { IsTrue (is_sound policy.now.items) }
-    ensures run {
-        IfSome E.tag_of (λ tagged. RunsTo result (script_outcome tagged digest.now policy.now (Some script)) (K.written out.old) (K.written out.new))
-    }
+    ensures run { IfSome E.tag_of (λ tagged. RunsTo result (script_outcome tagged digest.now policy.now (Some script)) (K.written out.old) (K.written out.new)) }
     ensures cause { LinesHalt (E.faults env.old) (E.faults env.new) (K.faults out.old) (K.faults out.new) result }
 {
     let script = match script {
@@ -115,7 +111,14 @@ pub fn run_bytes<E: Envelope, K: Sink>(
     };
     let items = policy.items.as_slice();
     match read_script(alloc, items, script.as_slice()) {
-        Ok(Script::Lines(lines)) => match run_lines(alloc, digest, items, lines.as_slice(), env, out) {
+        Ok(Script::Lines(lines)) => match run_lines(
+            alloc,
+            digest,
+            items,
+            lines.as_slice(),
+            env,
+            out,
+        ) {
             Ok(()) => Ok(Ending::Done),
             Err(halt) => Err(halt),
         },

@@ -16,7 +16,8 @@ use outside::{Disk, Envelope, Files, Sink};
 use std::alloc::Global;
 
 /// What is printed where the words are no words of a mode.
-const USAGE: &str = "usage: aranyad check POLICY | run POLICY SCRIPT [--store DIR] | code POLICY | gen N | serve POLICY SCRIPT --rounds N\n";
+const USAGE: &str =
+    "usage: aranyad check POLICY | run POLICY SCRIPT [--store DIR] | code POLICY | gen N | serve POLICY SCRIPT --rounds N\n";
 
 /// Runs a mode.
 fn run_mode<F: Files, E: Envelope, K: Sink>(
@@ -26,13 +27,9 @@ fn run_mode<F: Files, E: Envelope, K: Sink>(
     env: &mut E,
     out: &mut K,
 ) -> Result<Ending, Halt>
-    ensures run {
-        IfSome (F.holds files.old) (λ at. IfSome E.tag_of (λ tagged. (outcome : Outcome) → RunsMode tagged at (Some mode) outcome →
-            RunsTo result outcome (K.written out.old) (K.written out.new)))
-    }
-    ensures cause {
-        HaltsWithCause (counts (F.faults files.old) (E.faults env.old) (K.faults out.old)) (counts (F.faults files.new) (E.faults env.new) (K.faults out.new)) result
-    }
+    ensures run { IfSome (F.holds files.old) (λ at. IfSome E.tag_of (λ tagged. (outcome : Outcome) → RunsMode tagged at (Some mode) outcome →
+        RunsTo result outcome (K.written out.old) (K.written out.new))) }
+    ensures cause { HaltsWithCause (counts (F.faults files.old) (E.faults env.old) (K.faults out.old)) (counts (F.faults files.new) (E.faults env.new) (K.faults out.new)) result }
     ensures name { result ≡ Err halt.Read → NamesOne (Some mode) (F.last files.new) }
 {
     let Mode::Run(policy, script, _store) = mode;
@@ -47,13 +44,9 @@ fn run_words<F: Files, E: Envelope, K: Sink>(
     env: &mut E,
     out: &mut K,
 ) -> Result<Ending, Halt>
-    ensures run {
-        IfSome (F.holds files.old) (λ at. IfSome E.tag_of (λ tagged. (outcome : Outcome) → Runs tagged at words.now outcome →
-            RunsTo result outcome (K.written out.old) (K.written out.new)))
-    }
-    ensures cause {
-        HaltsWithCause (counts (F.faults files.old) (E.faults env.old) (K.faults out.old)) (counts (F.faults files.new) (E.faults env.new) (K.faults out.new)) result
-    }
+    ensures run { IfSome (F.holds files.old) (λ at. IfSome E.tag_of (λ tagged. (outcome : Outcome) → Runs tagged at words.now outcome →
+        RunsTo result outcome (K.written out.old) (K.written out.new))) }
+    ensures cause { HaltsWithCause (counts (F.faults files.old) (E.faults env.old) (K.faults out.old)) (counts (F.faults files.new) (E.faults env.new) (K.faults out.new)) result }
     ensures name { result ≡ Err halt.Read → NamesOne (mode_of words.now) (F.last files.new) }
 {
     match choose(alloc, words) {
@@ -76,10 +69,8 @@ pub fn run_command<F: Files, D: Disk, E: Envelope, K: Sink>(
     out: &mut K,
 ) -> Status
     requires { vec_len disks.old ≡ 8 }
-    ensures run {
-        IfSome (F.holds files.old) (λ at. IfSome E.tag_of (λ tagged. (outcome : Outcome) → Runs tagged at words.now outcome →
-            Follows result outcome (K.written out.old) (K.written out.new)))
-    }
+    ensures run { IfSome (F.holds files.old) (λ at. IfSome E.tag_of (λ tagged. (outcome : Outcome) → Runs tagged at words.now outcome →
+        Follows result outcome (K.written out.old) (K.written out.new))) }
     ensures disks { disks.new.items ≡ disks.old.items }
     ensures read { result ≡ Status.ReadFault → Rose (F.faults files.old) (F.faults files.new) }
     ensures name { result ≡ Status.ReadFault → NamesOne (mode_of words.now) (F.last files.new) }

@@ -31,13 +31,9 @@ fn run_script<F: Files, E: Envelope, K: Sink>(
     out: &mut K,
 ) -> Result<Ending, Halt>
     requires { IsTrue (is_sound policy.now.items) }
-    ensures run {
-        IfSome (F.holds files.old) (λ at. IfSome E.tag_of (λ tagged.
-            RunsTo result (script_outcome tagged digest.now policy.now (limited script_limit (at script))) (K.written out.old) (K.written out.new)))
-    }
-    ensures cause {
-        HaltsWithCause (counts (F.faults files.old) (E.faults env.old) (K.faults out.old)) (counts (F.faults files.new) (E.faults env.new) (K.faults out.new)) result
-    }
+    ensures run { IfSome (F.holds files.old) (λ at. IfSome E.tag_of (λ tagged.
+        RunsTo result (script_outcome tagged digest.now policy.now (limited script_limit (at script))) (K.written out.old) (K.written out.new))) }
+    ensures cause { HaltsWithCause (counts (F.faults files.old) (E.faults env.old) (K.faults out.old)) (counts (F.faults files.new) (E.faults env.new) (K.faults out.new)) result }
     ensures name { NamesFile script (F.last files.new) result }
 {
     match read_limited(alloc, files, script, SCRIPT_LIMIT) {
@@ -55,13 +51,9 @@ fn run_document<F: Files, E: Envelope, K: Sink>(
     env: &mut E,
     out: &mut K,
 ) -> Result<Ending, Halt>
-    ensures run {
-        IfSome (F.holds files.old) (λ at. IfSome E.tag_of (λ tagged. (found : Option SmallPolicy) → IsReading document.now found →
-            RunsTo result (reading_outcome tagged document.now (limited script_limit (at script)) found) (K.written out.old) (K.written out.new)))
-    }
-    ensures cause {
-        HaltsWithCause (counts (F.faults files.old) (E.faults env.old) (K.faults out.old)) (counts (F.faults files.new) (E.faults env.new) (K.faults out.new)) result
-    }
+    ensures run { IfSome (F.holds files.old) (λ at. IfSome E.tag_of (λ tagged. (found : Option SmallPolicy) → IsReading document.now found →
+        RunsTo result (reading_outcome tagged document.now (limited script_limit (at script)) found) (K.written out.old) (K.written out.new))) }
+    ensures cause { HaltsWithCause (counts (F.faults files.old) (E.faults env.old) (K.faults out.old)) (counts (F.faults files.new) (E.faults env.new) (K.faults out.new)) result }
     ensures name { NamesFile script (F.last files.new) result }
 {
     match read_policy(alloc, document) {
@@ -80,14 +72,10 @@ pub fn run_files<F: Files, E: Envelope, K: Sink>(
     env: &mut E,
     out: &mut K,
 ) -> Result<Ending, Halt>
-    ensures run {
-        IfSome (F.holds files.old) (λ at. IfSome E.tag_of (λ tagged. (outcome : Outcome) →
-            RunsFiles tagged (limited policy_limit (at policy)) (limited script_limit (at script)) outcome →
-            RunsTo result outcome (K.written out.old) (K.written out.new)))
-    }
-    ensures cause {
-        HaltsWithCause (counts (F.faults files.old) (E.faults env.old) (K.faults out.old)) (counts (F.faults files.new) (E.faults env.new) (K.faults out.new)) result
-    }
+    ensures run { IfSome (F.holds files.old) (λ at. IfSome E.tag_of (λ tagged. (outcome : Outcome) →
+        RunsFiles tagged (limited policy_limit (at policy)) (limited script_limit (at script)) outcome →
+        RunsTo result outcome (K.written out.old) (K.written out.new))) }
+    ensures cause { HaltsWithCause (counts (F.faults files.old) (E.faults env.old) (K.faults out.old)) (counts (F.faults files.new) (E.faults env.new) (K.faults out.new)) result }
     ensures name { result ≡ Err halt.Read → (F.last files.new ≡ Some policy) ⊎ (F.last files.new ≡ Some script) }
 {
     match read_limited(alloc, files, policy, POLICY_LIMIT) {

@@ -5,11 +5,13 @@ use std::alloc::Global;
 use std::process::Abort;
 use std::test::*;
 
-const POLICY: &str = "---\npolicy-version: 2\n---\n```policy\nfact Item[n int]=>{by id}\neffect Added { n int }\ncommand Start { attributes { init: true } fields { } seal { return envelope::do_seal(serialize(this)) } open { return deserialize(envelope::do_open(envelope)) } policy { finish { } } }\ncommand Put { fields { n int } seal { return envelope::do_seal(serialize(this)) } open { return deserialize(envelope::do_open(envelope)) }\n  policy { check this.n > 0 let who = envelope::author_id(envelope)\n    finish { create Item[n: this.n]=>{by: who} emit Added { n: this.n } } } }\naction start() { publish Start { } }\naction put(n int) { publish Put { n: n } }\n```\n";
+const POLICY: &str =
+    "---\npolicy-version: 2\n---\n```policy\nfact Item[n int]=>{by id}\neffect Added { n int }\ncommand Start { attributes { init: true } fields { } seal { return envelope::do_seal(serialize(this)) } open { return deserialize(envelope::do_open(envelope)) } policy { finish { } } }\ncommand Put { fields { n int } seal { return envelope::do_seal(serialize(this)) } open { return deserialize(envelope::do_open(envelope)) }\n  policy { check this.n > 0 let who = envelope::author_id(envelope)\n    finish { create Item[n: this.n]=>{by: who} emit Added { n: this.n } } } }\naction start() { publish Start { } }\naction put(n int) { publish Put { n: n } }\n```\n";
 
 const SCRIPT: &str = "replica a\ninit a start()\nact a put(7)\nfacts a\n";
 
-const TEXT: &str = "replica a holds 0\ninit a: published 1, merges 0, cut 0, entries 1\nact a: published 1, merges 0, cut 1, entries 1\nfacts a: 1\n  Item[n: 7]=>{by: id:58f468f820d490d5fadd64f8a6425a391cd001765dc4edd9dff0b5f3fadc4a96}\n";
+const TEXT: &str =
+    "replica a holds 0\ninit a: published 1, merges 0, cut 0, entries 1\nact a: published 1, merges 0, cut 1, entries 1\nfacts a: 1\n  Item[n: 7]=>{by: id:58f468f820d490d5fadd64f8a6425a391cd001765dc4edd9dff0b5f3fadc4a96}\n";
 
 // A script over a policy, with the numbers of the writes and of the seals that fail, and what must come of it.
 #[derive(Clone, Copy)]
@@ -43,8 +45,14 @@ fn words(alloc: Global) -> Result<Vec<Text>, NoMemory> {
 
 fn files(alloc: Global, row: &Row) -> Result<MemoryFiles, NoMemory> {
     let mut files = Vec::new(alloc);
-    files.push((text(alloc, "policy")?, Bytes::from_slice(alloc, row.policy.as_bytes())?))?;
-    files.push((text(alloc, "script")?, Bytes::from_slice(alloc, row.script.as_bytes())?))?;
+    files.push((
+        text(alloc, "policy")?,
+        Bytes::from_slice(alloc, row.policy.as_bytes())?,
+    ))?;
+    files.push((
+        text(alloc, "script")?,
+        Bytes::from_slice(alloc, row.script.as_bytes())?,
+    ))?;
     Ok(MemoryFiles::new(alloc, files, Vec::new(alloc)))
 }
 
@@ -55,9 +63,25 @@ fn assert_row<R: Abort>(rt: &R, alloc: Global, row: &Row) -> Result<(), NoMemory
     let mut disks = crate::empty_disks(alloc)?;
     let mut env = ListEnvelope::new(alloc, numbers(alloc, row.failing_seal)?);
     let mut out = MemorySink::new(alloc, numbers(alloc, row.failing_write)?);
-    let status = run_command(alloc, words.as_slice(), &mut files, &mut disks, &mut env, &mut out);
-    assert!(rt; status.number() == row.status, "{}: status {}", row.name, status.number());
-    assert!(rt; out.bytes() == row.text.as_bytes(), "{}: another text", row.name);
+    let status = run_command(
+        alloc,
+        words.as_slice(),
+        &mut files,
+        &mut disks,
+        &mut env,
+        &mut out,
+    );
+    assert!(rt;
+        status.number() == row.status,
+        "{}: status {}",
+        row.name,
+        status.number()
+    );
+    assert!(rt;
+        out.bytes() == row.text.as_bytes(),
+        "{}: another text",
+        row.name
+    );
     Ok(())
 }
 
@@ -142,7 +166,14 @@ const FAILED_SEAL: Row = Row {
 };
 
 const ROWS: [Row; 8] = [
-    WHOLE, EMPTY, UNCHECKED, UNBUILT, OTHER_REPLICA, FIFTH_LINE, FAILED_WRITE, FAILED_SEAL,
+    WHOLE,
+    EMPTY,
+    UNCHECKED,
+    UNBUILT,
+    OTHER_REPLICA,
+    FIFTH_LINE,
+    FAILED_WRITE,
+    FAILED_SEAL,
 ];
 
 #[test]

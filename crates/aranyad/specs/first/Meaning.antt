@@ -1,5 +1,5 @@
 -- What the commands of a small policy do.
-use Rattle.std.specs.Prelude.{ℕ, ℤ, pos, int_lt, Bool, if◌then◌else◌, List, [], ◌∷◌, length, map, Option, Some, None}
+use Rattle.std.specs.Prelude.{ℕ, ◌+◌, ℤ, pos, int_lt, Bool, if◌then◌else◌, List, [], ◌∷◌, length, map, Option, Some, None}
 use Rattle.std.specs.List.{list_all}
 use Rattle.std.specs.Str.{bytes_eq}
 use Rattle.command.specs.declared.command.Command.{Command}
@@ -71,21 +71,23 @@ pub data Outcome : Type 0 where
   Recalled : Outcome
   Void : Outcome
 
--- an outcome, with the rows after it and the effects
+-- an outcome, with the rows after it, the effects, and how many blocks were run: the policy block, and the recall block
+-- where a check failed
 pub record Done : Type 0 where
   pub outcome : Outcome
   pub rows : List Row
   pub effects : List Emitted
+  pub ticks : ℕ
 
 -- over rows, with the effects that the command emits where it passes
 abbrev pub done : List Row → List Emitted → Verdict → Done
-done rows effects (Pass after) = record { outcome = Passed; rows = after; effects = effects }
-done rows effects Check = record { outcome = Recalled; rows = rows; effects = [] }
-done rows effects Exists = record { outcome = Void; rows = rows; effects = [] }
+done rows effects (Pass after) = record { outcome = Passed; rows = after; effects = effects; ticks = 1 }
+done rows effects Check = record { outcome = Recalled; rows = rows; effects = []; ticks = 2 }
+done rows effects Exists = record { outcome = Void; rows = rows; effects = []; ticks = 1 }
 
 -- a command that the policy doesn't declare, or whose payload is no value of its fields, is void
 abbrev pub void : List Row → Done
-void rows = record { outcome = Void; rows = rows; effects = [] }
+void rows = record { outcome = Void; rows = rows; effects = []; ticks = 0 }
 
 abbrev pub start_done : List Row → Option (List ℤ) → Done
 start_done rows None = void rows
@@ -114,16 +116,21 @@ pub record Entry : Type 0 where
   pub outcome : Outcome
   pub effects : List Emitted
 
--- a run of commands in order: the rows after it, and an entry a command
+-- a run of commands in order: the rows after it, an entry a command, and how many blocks were run
 pub record Ran : Type 0 where
   pub rows : List Row
   pub entries : List Entry
+  pub ticks : ℕ
 
 abbrev pub with_entry : Command → Done → Ran → Ran
-with_entry c d rest = record { rows = rest.rows; entries = record { id = command_id c; outcome = d.outcome; effects = d.effects } ∷ rest.entries }
+with_entry c d rest = record {
+  rows = rest.rows;
+  entries = record { id = command_id c; outcome = d.outcome; effects = d.effects } ∷ rest.entries;
+  ticks = d.ticks + rest.ticks;
+}
 
 abbrev pub ran_from : List Item → List Row → List Command → Ran
-ran_from items rows [] = record { rows = rows; entries = [] }
+ran_from items rows [] = record { rows = rows; entries = []; ticks = 0 }
 ran_from items rows (c ∷ commands) = with_entry c (command_done items c rows) (ran_from items (command_done items c rows).rows commands)
 
 -- the run of commands from no rows

@@ -40,12 +40,10 @@ fn act_line<E: Envelope>(
 ) -> Result<Bytes, Stop>
     requires sound { IsTrue (is_sound items.now) }
     requires stands { Stands items.now replica.old.commands replica.old.rows }
-    ensures step {
-        IfOk result (Leads E.tag_of (λ tagged.
-            running.acted_step verb.now name.now replica.old.commands
-                (acting.acted items.now (running.maker_of tagged digest.now name.now) replica.old.commands action.now arguments.now))
-            replica.new.commands)
-    }
+    ensures step { IfOk result (Leads E.tag_of (λ tagged.
+        running.acted_step verb.now name.now replica.old.commands
+        (acting.acted items.now (running.maker_of tagged digest.now name.now) replica.old.commands action.now arguments.now))
+        replica.new.commands) }
     ensures stands { Stands items.now replica.new.commands replica.new.rows }
     ensures same { OnErr result (replica.new ≡ replica.old) }
     ensures cause { SealHasCause (E.faults env.old) (E.faults env.new) result }
@@ -56,7 +54,16 @@ fn act_line<E: Envelope>(
     };
     let commands = replica.commands.as_slice();
     let rows = replica.rows.as_slice();
-    match act(alloc, items, &maker, commands, rows, action.as_slice(), arguments, env)? {
+    match act(
+        alloc,
+        items,
+        &maker,
+        commands,
+        rows,
+        action.as_slice(),
+        arguments,
+        env,
+    )? {
         Acted::Published(command, rows) => {
             let text = published_text(alloc, verb, name, replica.commands.len())?;
             replica.commands.push(command)?;
@@ -85,11 +92,23 @@ pub fn step<E: Envelope>(
     match line {
         Line::Replica(name) => Ok(replica_text(alloc, name, replica.commands.len())?),
         Line::Init(name, action) => {
-            act_line(alloc, digest, items, replica, "init", name, action, &[], env)
+            act_line(
+                alloc,
+                digest,
+                items,
+                replica,
+                "init",
+                name,
+                action,
+                &[],
+                env,
+            )
         }
         Line::Act(name, action, arguments) => {
             let arguments = arguments.as_slice();
-            act_line(alloc, digest, items, replica, "act", name, action, arguments, env)
+            act_line(
+                alloc, digest, items, replica, "act", name, action, arguments, env,
+            )
         }
         Line::Facts(name) => Ok(facts_text(alloc, items, name, replica.rows.as_slice())?),
     }

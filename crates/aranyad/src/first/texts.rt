@@ -33,7 +33,10 @@ pub fn replica_text(alloc: Global, name: &Text, held: usize) -> Result<Bytes, No
     ensures { IfOk result (λ text. text ≡ running.replica_text name.now held) }
 {
     let held = held.to_string(alloc)?;
-    joined(alloc, &["replica ", name.as_str(), " holds ", held.as_str(), "\n"])
+    joined(
+        alloc,
+        &["replica ", name.as_str(), " holds ", held.as_str(), "\n"],
+    )
 }
 
 /// `verb name: published 1, ..`, where so many commands were held before.
@@ -62,7 +65,10 @@ fn push_reason(alloc: Global, into: &mut Bytes, why: &Refusal) -> Result<(), NoM
             push_all(into, &["collision ", hex.as_str()])
         }
         Refusal::Check(command) => push_all(into, &["command ", command.as_str(), ": check"]),
-        Refusal::Exists(command) => push_all(into, &["command ", command.as_str(), ": fault exists"]),
+        Refusal::Exists(command) => push_all(
+            into,
+            &["command ", command.as_str(), ": fault exists"],
+        ),
         Refusal::NoGraph => push_all(into, &["no graph"]),
         Refusal::UnknownAction => push_all(into, &["unknown action"]),
     }
@@ -94,7 +100,19 @@ fn push_row(alloc: Global, into: &mut Bytes, fact: &Fact, row: &Row) -> Result<(
     let value = fact.value.as_str();
     push_all(
         into,
-        &["  ", name, "[", key, ": ", number.as_str(), "]=>{", value, ": id:", hex.as_str(), "}\n"],
+        &[
+            "  ",
+            name,
+            "[",
+            key,
+            ": ",
+            number.as_str(),
+            "]=>{",
+            value,
+            ": id:",
+            hex.as_str(),
+            "}\n",
+        ],
     )
 }
 
@@ -130,7 +148,10 @@ pub fn facts_text(
     ensures { IfOk result (λ text. text ≡ running.facts_text items.now name.now rows.now) }
 {
     let count = rows.len().to_string(alloc)?;
-    let mut text = joined(alloc, &["facts ", name.as_str(), ": ", count.as_str(), "\n"])?;
+    let mut text = joined(
+        alloc,
+        &["facts ", name.as_str(), ": ", count.as_str(), "\n"],
+    )?;
     if let Some(fact) = fact_of(items) {
         push_rows(alloc, &mut text, fact, rows)?;
     }

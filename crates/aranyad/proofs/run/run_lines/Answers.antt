@@ -18,5 +18,5 @@ loop-line-preserved g c = record {
 pub returns-in-Err-clause-written : goal.returns-in-Err-clause-written
 returns-in-Err-clause-written g c =
     line_halted g.E.Envelope.tag_of c.args.digest.now c.args.items.now (λ tagged. concat (texts tagged c.args.digest.now c.args.items.now [] c.args.lines.now))
-        c.args.lines.now c.loop-line.line-index c.line-item.result c.loop-line.replica.commands _ c.in_ok-text.text _ _ _ c.loop-line-test.true c.line-item.is
-        c.loop-line.invariant.written c.in_ok-text.ensures.step (rw c.as_slice.ensures at c.in-Err.ensures.written)
+    c.args.lines.now c.loop-line.line-index c.line-item.result c.loop-line.replica.commands _ c.in_ok-text.text _ _ _ c.loop-line-test.true c.line-item.is
+    c.loop-line.invariant.written c.in_ok-text.ensures.step (rw c.as_slice.ensures at c.in-Err.ensures.written)

@@ -8,8 +8,8 @@ use Rattle.aranyad.proofs.run_command.run_words.Goals as goal
 pub returns-in-Usage-clause-run : goal.returns-in-Usage-clause-run
 returns-in-Usage-clause-run g c =
     told_both (g.F.Files.holds c.args.files.now) g.E.Envelope.tag_of _ (λ at tagged.
-        usage_runs tagged at (mode_of c.args.words.now) c.refuse.result _ _ (c.in-Err.ensures.usage (ap Err c.in-Usage.is))
-            (rw c.as_bytes.ensures.value at c.refuse.ensures.run))
+    usage_runs tagged at (mode_of c.args.words.now) c.refuse.result _ _ (c.in-Err.ensures.usage (ap Err c.in-Usage.is))
+    (rw c.as_bytes.ensures.value at c.refuse.ensures.run))
 
 pub returns-in-NoMemory-clause-run : goal.returns-in-NoMemory-clause-run
 returns-in-NoMemory-clause-run g c =
