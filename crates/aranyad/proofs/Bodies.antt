@@ -1,13 +1,10 @@
 -- The lines of a body, and their tokens.
 use Rattle.std.specs.Borrow.{Bor}
 use Rattle.std.proofs.lemmas.Bool.Decides.{nat_tests}
-use Rattle.std.proofs.Common.{◌≡◌, ◌==◌, Bool, true, false, ℕ, zero, suc, ◌+◌, ◌-◌, ◌<◌, if◌then◌else◌, List, [], ◌∷◌, ◌++◌, length, take, drop, map, get_or, refl, ap, sym, ◌∙◌, arith, Option, Some, None, append_assoc, option_map, sub-one, drop-cons, add-one}
-use Rattle.std.specs.Option.{option_and_then}
+use Rattle.std.proofs.Common.{◌≡◌, ◌==◌, Bool, true, false, ℕ, zero, suc, ◌-◌, ◌<◌, if◌then◌else◌, List, [], ◌∷◌, length, take, get_or, refl, ap, sym, ◌∙◌, arith, Some, None, option_map}
 use Rattle.std.specs.Str.{bytes_eq}
-use Rattle.policy_ast.specs.declared.token.TokenKind.{TokenKind}
 use Rattle.aranyad.specs.first.Document.{closing_line}
 use Rattle.aranyad.specs.first.Framing.{Lines, texts, without_closing}
-use Rattle.aranyad.specs.first.Tokens.{line_tokens, lines_tokens}
 
 pub one_line_more : (line : List ℕ) (more : Lines) → 0 < length more → without_closing (line ∷ more) ≡ option_map (λ rest. line ∷ rest) (without_closing more)
 unfolding without_closing

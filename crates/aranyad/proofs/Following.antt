@@ -1,5 +1,5 @@
 -- From how the parts of a run ended to the status of the whole.
-use Rattle.std.proofs.Common.{◌≡◌, ℕ, List, Option, Some, None, Result, Ok, Err}
+use Rattle.std.proofs.Common.{ℕ, List, Option, Ok, Err}
 use Rattle.aranyad.specs.declared.ending.Ending.{Ending}
 use Rattle.aranyad.specs.declared.ending.Ending.TheVariants as ending
 use Rattle.aranyad.specs.declared.ending.Halt.{Halt}

@@ -1,7 +1,6 @@
 -- A reading function and a spelling that agree, and the ways to make such pairs from smaller ones.
-use Rattle.std.proofs.Common.{◌≡◌, ℕ, ℤ, zero, suc, ◌+◌, ◌<◌, ◌≤◌, ◌==◌, ◌&&◌, not, if◌then◌else◌, Bool, true, false, List, [], ◌∷◌, ◌++◌, length, map, refl, ap, sym, subst, ◌∙◌, arith, Option, Some, None, option_map, append_assoc, true≢false, length-append}
+use Rattle.std.proofs.Common.{◌≡◌, ℕ, ℤ, ◌==◌, ◌&&◌, not, if◌then◌else◌, Bool, true, false, List, [], ◌∷◌, ◌++◌, refl, ap, sym, subst, ◌∙◌, Option, Some, None, option_map, append_assoc, true≢false}
 use Rattle.std.specs.Char.{is_ascii_alphabetic}
-use Rattle.std.specs.List.{flat_map, join_by}
 use Rattle.std.specs.Option.{option_and_then}
 use Rattle.std.specs.Prelude.{slice_index}
 use Rattle.std.specs.Str.{bytes_eq}
@@ -9,9 +8,8 @@ use Rattle.std.proofs.lemmas.Bool.Decides.{Decides-eqb}
 use Rattle.std.proofs.lemmas.Slice.Eq.{bytes_eq-Decides}
 use Rattle.policy_ast.specs.declared.token.TokenKind.{TokenKind}
 use Rattle.policy_ast.specs.declared.token.TokenKind.TheVariants.{Word, Number, Quoted, Symbol}
-use Rattle.aranyad.specs.declared.first.forms.TheConstants.{COMMA}
 use Rattle.aranyad.specs.first.Spelling.{Tokens}
-use Rattle.aranyad.specs.first.Reading.{Form, Reader, after, behind, chosen, ended, form_tokens, is_token, made, name_at, named, number_at, pair, parted, parts, symbol_named, token_of}
+use Rattle.aranyad.specs.first.Reading.{Form, Reader, after, behind, chosen, ended, form_tokens, is_token, made, name_at, named, number_at, pair, symbol_named, token_of}
 
 -- what is spelled is read, whatever follows, and only that
 pub record IsFormat {A : Type 0} (spelled : A → Tokens) (read : Reader A) : Type 0 where

@@ -1,12 +1,12 @@
 -- The items of a small policy: what is spelled is read, and only that.
 use Rattle.std.proofs.Common.{◌≡◌, ℕ, zero, suc, ◌<◌, ◌≤◌, Bool, true, false, List, [], ◌∷◌, ◌++◌, length, map, refl, ap, sym, subst, ◌∙◌, arith, length-append, Option, Some, None, append_assoc}
-use Rattle.std.specs.Prelude.{codes, option_map}
-use Rattle.std.specs.List.{flat_map, join_by}
+use Rattle.std.specs.Prelude.{codes}
+use Rattle.std.specs.List.{flat_map}
 use Rattle.std.specs.Option.{option_or}
 use Rattle.policy_ast.specs.declared.symbols.TheConstants.{OPEN_BRACE, CLOSE_BRACE, OPEN_PAREN, CLOSE_PAREN}
 use Rattle.policy_ast.specs.declared.token.TokenKind.{TokenKind}
-use Rattle.policy_ast.specs.declared.token.TokenKind.TheVariants.{Word, Number, Symbol}
-use Rattle.aranyad.specs.declared.first.forms.TheConstants.{COMMA, INT, OPENED, CLOSED, KEYS_OPENED, PARAMETERS_OPENED, PARAMETERS_CLOSED, BOUND, BOUND_TO_THIS, FACT, FACT_VALUES, FACT_CLOSED, EFFECT, COMMAND, START_OPENED, SEAL, OPEN_AND_POLICY, START_CLOSED, BASIC_OPENED, CHECK, GREATER_THAN, LET, AUTHOR_AND_FINISH, CREATE, CREATED_VALUES, EMIT, BASIC_CLOSED, ACTION, PUBLISH}
+use Rattle.policy_ast.specs.declared.token.TokenKind.TheVariants.{Word, Symbol}
+use Rattle.aranyad.specs.declared.first.forms.TheConstants.{INT, OPENED, CLOSED, KEYS_OPENED, PARAMETERS_OPENED, PARAMETERS_CLOSED, BOUND, BOUND_TO_THIS, FACT, FACT_VALUES, FACT_CLOSED, EFFECT, COMMAND, START_OPENED, SEAL, OPEN_AND_POLICY, START_CLOSED, BASIC_OPENED, CHECK, GREATER_THAN, LET, AUTHOR_AND_FINISH, CREATE, CREATED_VALUES, EMIT, BASIC_CLOSED, ACTION, PUBLISH}
 use Rattle.aranyad.specs.declared.first.policy.Item.{Item}
 use Rattle.aranyad.specs.declared.first.policy.Item.TheVariants as item
 use Rattle.aranyad.specs.declared.first.policy.Bind.{Bind}
@@ -14,7 +14,7 @@ use Rattle.aranyad.specs.declared.first.policy.Check.{Check}
 use Rattle.aranyad.specs.declared.first.policy.Construct.{Construct}
 use Rattle.aranyad.specs.first.Spelling as spelling
 use Rattle.aranyad.specs.first.Spelling.{Tokens, field_spelling, fact_spelling, effect_spelling, start_spelling, check_spelling, created_spelling, this_bind_spelling, bind_spelling, construct_spelling, emitted_spelling, basic_spelling, action_spelling, item_spelling}
-use Rattle.aranyad.specs.first.Reading.{Form, Reader, after, behind, ended, form_tokens, items_within, listed, made, many, read_action, read_basic, read_bind, read_check, read_checks, read_construct, read_created, read_effect, read_end, read_fact, read_field, read_finish, read_item, read_items, read_start}
+use Rattle.aranyad.specs.first.Reading.{Reader, after, behind, ended, form_tokens, items_within, listed, made, many, read_action, read_basic, read_bind, read_check, read_construct, read_created, read_effect, read_end, read_fact, read_field, read_item, read_items, read_start}
 use Rattle.aranyad.proofs.Formats.{IsFormat, after_only, after_reads, behind_format, bind_then, chosen_then, ended_format, made_format, map_then, named_format, number_format, pair_format, respelled, same_some, some_of}
 use Rattle.aranyad.proofs.Rows.{lead, parts_format, rows_listed, rows_many}
 

@@ -6,7 +6,7 @@ use Rattle.aranyad.specs.declared.first.acted.Acted.TheVariants.{Published}
 use Rattle.aranyad.specs.declared.first.facts.Row.{Row}
 use Rattle.aranyad.specs.first.Acting.{Tagging}
 use Rattle.aranyad.specs.first.Making.{IsMade, Leads}
-use Rattle.aranyad.specs.first.Running.{Step, acted_step, published_text}
+use Rattle.aranyad.specs.first.Running.{acted_step, published_text}
 use Rattle.aranyad.specs.first.Sound.{Name}
 
 -- one command was published

@@ -7,7 +7,7 @@ use Rattle.aranyad.specs.first.Acting.{Tagging}
 use Rattle.aranyad.specs.first.Framing.{read_document}
 use Rattle.aranyad.specs.Laws.{HasOneOutcome, HasOneReading}
 use Rattle.aranyad.specs.Modes.{mode_of}
-use Rattle.aranyad.specs.Outcome.{Outcome, Runs, RunsFiles, RunsMode, ended, limited, policy_limit, reading_outcome, refused, script_limit, usage_line}
+use Rattle.aranyad.specs.Outcome.{Outcome, RunsFiles, RunsMode, limited, policy_limit, reading_outcome, script_limit}
 use Rattle.aranyad.proofs.Reader.{reading}
 use Rattle.aranyad.proofs.Readings.{one_reading}
 

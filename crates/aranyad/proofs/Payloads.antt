@@ -1,8 +1,7 @@
 -- Payloads of int fields: how long they are, and that they are read as what they were written from.
-use Rattle.std.proofs.Common.{◌≡◌, ℕ, ◌+◌, ◌*◌, ◌<◌, ◌≤◌, ◌^◌, suc, ℤ, w64, nat_le, cond, true, List, [], ◌∷◌, ◌++◌, length, take, drop, Option, Some, None, refl, sym, ap, subst, ◌∙◌, arith, length-append, get_or, ◌-◌, SFits}
+use Rattle.std.proofs.Common.{◌≡◌, ◌*◌, ◌<◌, suc, ℤ, w64, nat_le, true, List, [], ◌∷◌, ◌++◌, length, take, drop, Some, refl, sym, ap, subst, ◌∙◌, arith, length-append, get_or, ◌-◌, SFits}
 use Rattle.std.proofs.lemmas.List.{take_all}
-use Rattle.std.specs.Int.{to_be_bytes, from_be_bytes, cast_signed, cast_unsigned}
-use Rattle.std.specs.Option.{option_map}
+use Rattle.std.specs.Int.{cast_signed, cast_unsigned}
 use Rattle.std.proofs.Math.Facts.{to_z-of_z, Fits-of_z}
 use Rattle.std.proofs.Math.Seq.{take-append_seam, drop-append_seam}
 use Rattle.std.proofs.lemmas.Nat.{from_be_bytes-to_be_bytes_8}

@@ -1,5 +1,5 @@
 -- The document that is read is a small policy, and every small policy is read.
-use Rattle.std.proofs.Common.{◌≡◌, ℕ, Bool, true, false, if◌then◌else◌, List, [], ◌∷◌, ◌++◌, ◌<◌, length, arith, refl, ap, sym, subst, ◌∙◌, Option, Some, None, option_map, append_assoc}
+use Rattle.std.proofs.Common.{◌≡◌, ℕ, List, [], ◌∷◌, ◌++◌, ◌<◌, length, arith, refl, ap, sym, subst, ◌∙◌, Option, Some, None}
 use Rattle.std.specs.Prelude.{codes, IsTrue}
 use Rattle.std.specs.Option.{option_and_then}
 use Rattle.std.specs.Str.{bytes_eq}
@@ -12,7 +12,7 @@ use Rattle.aranyad.specs.first.Framing.{Lines, behind_line, behind_opening, clos
 use Rattle.aranyad.specs.first.Reading.{read_items}
 use Rattle.aranyad.specs.first.Rest.{front}
 use Rattle.aranyad.specs.first.Sound.{is_sound}
-use Rattle.aranyad.specs.first.Spelling.{Tokens, spelling}
+use Rattle.aranyad.specs.first.Spelling.{spelling}
 use Rattle.aranyad.specs.first.Tokens.{lines_tokens}
 use Rattle.aranyad.proofs.Formats.{bind_then, if_then, map_then, same_some}
 use Rattle.aranyad.proofs.Grammar.{read_is_spelled, spelled_is_read}

@@ -7,10 +7,9 @@ use Rattle.outside.specs.Files.{Holding}
 use Rattle.aranyad.specs.declared.mode.Mode.{Mode}
 use Rattle.aranyad.specs.declared.first.policy.SmallPolicy.{SmallPolicy}
 use Rattle.aranyad.specs.first.Acting.{Tagging}
-use Rattle.aranyad.specs.first.Document.{IsReading, IsSmall}
-use Rattle.aranyad.specs.first.Framing.{read_document}
+use Rattle.aranyad.specs.first.Document.{IsReading}
 use Rattle.aranyad.specs.Outcome.{Outcome, RunsFiles, RunsMode, RunsTo, reading_outcome, refused, usage_line}
-use Rattle.aranyad.proofs.Reader.{reading, small_is_read}
+use Rattle.aranyad.proofs.Reader.{small_is_read}
 
 -- two readings of a document are the same
 pub one_reading : (document : List ℕ) (a b : Option SmallPolicy) → IsReading document a → IsReading document b → a ≡ b

@@ -1,10 +1,9 @@
 -- Parts up to closing tokens, with commas between them or without: what is spelled is read, and only that.
-use Rattle.std.proofs.Common.{◌≡◌, ℕ, zero, suc, ◌+◌, ◌<◌, ◌≤◌, Bool, true, false, List, [], ◌∷◌, ◌++◌, length, map, refl, ap, sym, subst, ◌∙◌, arith, Option, Some, None, option_map, append_assoc, length-append}
+use Rattle.std.proofs.Common.{◌≡◌, ℕ, zero, suc, ◌<◌, ◌≤◌, Bool, true, false, List, [], ◌∷◌, ◌++◌, length, map, refl, ap, sym, subst, ◌∙◌, arith, Some, None, append_assoc, length-append}
 use Rattle.std.specs.List.{flat_map, join_by}
-use Rattle.std.specs.Option.{option_and_then}
 use Rattle.aranyad.specs.declared.first.forms.TheConstants.{COMMA}
 use Rattle.aranyad.specs.first.Spelling.{Tokens}
-use Rattle.aranyad.specs.first.Reading.{Form, Reader, after, chosen, form_tokens, listed, many, parted, parts}
+use Rattle.aranyad.specs.first.Reading.{Form, Reader, after, form_tokens, parted, parts}
 use Rattle.aranyad.proofs.Formats.{IsFormat, after_only, after_reads, bind_then, chosen_then, map_then, same_some}
 
 -- what stands before a part

@@ -1,5 +1,5 @@
 -- The lines of a small script: the pieces of a line, one after another, and what they make.
-use Rattle.std.proofs.Common.{◌≡◌, ℕ, ℤ, ◌+◌, ◌-◌, ◌<◌, ◌==◌, not, Bool, true, false, List, [], ◌∷◌, ◌++◌, length, take, drop, get_or, slice_index, codes, refl, sym, ap, ◌∙◌, arith, Option, Some, None, option_map, append_assoc}
+use Rattle.std.proofs.Common.{◌≡◌, ℕ, ℤ, ◌-◌, ◌<◌, ◌==◌, not, Bool, true, false, List, [], ◌∷◌, ◌++◌, length, take, drop, get_or, slice_index, codes, refl, sym, ap, ◌∙◌, arith, Option, Some, None, option_map, append_assoc}
 use Rattle.std.specs.List.{filter, flat_map, list_all, slice_split, take_while}
 use Rattle.std.specs.Str.{IsAscii, IsUtf8, bytes_eq}
 use Rattle.std.proofs.lemmas.Str.{IsUtf8-from_ascii}

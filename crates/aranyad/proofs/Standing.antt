@@ -1,22 +1,18 @@
 -- The commands and the rows of a replica under a small policy.
-use Rattle.std.proofs.Common.{◌≡◌, ℕ, ◌+◌, ◌*◌, ◌<◌, ◌≤◌, suc, ℤ, w64, Bool, true, false, cond, ◌&&◌, IsTrue, nat_le, List, [], ◌∷◌, ◌++◌, map, length, take, drop, Option, Some, None, refl, sym, ap, subst, ◌∙◌, arith, length-append, append-nil}
-use Rattle.std.specs.Prelude.{FitsSigned, count_by, ◌==◌, not, codes}
-use Rattle.std.specs.List.{list_any}
-use Rattle.std.specs.List.{find, list_all, flat_map}
+use Rattle.std.proofs.Common.{◌≡◌, ◌≤◌, Bool, true, false, cond, ◌&&◌, nat_le, List, [], ◌∷◌, ◌++◌, map, length, Option, Some, refl, subst, arith}
+use Rattle.std.specs.Prelude.{count_by, ◌==◌, not, codes}
+use Rattle.std.specs.List.{find, list_all}
 use Rattle.std.specs.Str.{bytes_eq}
 use Rattle.std.proofs.lemmas.Slice.Eq.{bytes_eq-Decides}
 use Rattle.std.proofs.lemmas.Bool.Decides.{nat_tests}
 use Rattle.command.specs.declared.command.Command.{Command}
-use Rattle.command.specs.declared.command.Command.TheVariants as command
-use Rattle.command.specs.Wire.{AreContent}
 use Rattle.base_bytes.specs.Words.{is_word}
 use Rattle.policy_ast.specs.Words.{is_name, is_reserved}
 use Rattle.aranyad.specs.declared.first.facts.Row.{Row}
 use Rattle.aranyad.specs.declared.first.policy.Item.{Item}
 use Rattle.aranyad.specs.declared.first.policy.Item.TheVariants as item
 use Rattle.aranyad.specs.declared.first.policy.Basic.{Basic}
-use Rattle.aranyad.specs.declared.first.policy.Start.{Start}
-use Rattle.aranyad.specs.first.Meaning.{ran_from, ran, command_done}
+use Rattle.aranyad.specs.first.Meaning.{ran_from, command_done}
 use Rattle.aranyad.specs.first.Sound.{Name, item_named, name_of, is_sound, item_is_sound, basic_is_sound, body_is_sound, are_fields, are_distinct, is_fact, is_start, creates, emission_is_sound, is_among}
 
 -- what stands first passes the test, or what is found behind it does

@@ -1,5 +1,5 @@
 -- Rows of the one fact of a small policy.
-use Rattle.std.specs.Prelude.{ℕ, ℤ, int_lt, if◌then◌else◌, List, [], ◌∷◌, Option, Some, None, option_map}
+use Rattle.std.specs.Prelude.{int_lt, if◌then◌else◌, List, [], ◌∷◌, Option, Some, None, option_map}
 use Rattle.aranyad.specs.declared.first.facts.Row.{Row}
 
 -- the rows with one more, in ascending order of their keys, or none where a row has that key already

@@ -6,10 +6,7 @@ use Rattle.policy_ast.specs.Words.{is_name}
 use Rattle.aranyad.specs.declared.first.policy.Item.{Item}
 use Rattle.aranyad.specs.declared.first.policy.Item.TheVariants as item
 use Rattle.aranyad.specs.declared.first.policy.Fact.{Fact}
-use Rattle.aranyad.specs.declared.first.policy.Effect.{Effect}
 use Rattle.aranyad.specs.declared.first.policy.Basic.{Basic}
-use Rattle.aranyad.specs.declared.first.policy.Check.{Check}
-use Rattle.aranyad.specs.declared.first.policy.Created.{Created}
 use Rattle.aranyad.specs.declared.first.policy.Construct.{Construct}
 use Rattle.aranyad.specs.declared.first.policy.Bind.{Bind}
 use Rattle.aranyad.specs.declared.first.policy.Action.{Action}

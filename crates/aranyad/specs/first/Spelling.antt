@@ -1,5 +1,5 @@
 -- How a small policy is spelled: the tokens of each item, in the order of the grammar.
-use Rattle.std.specs.Prelude.{ℕ, ℤ, List, [], ◌∷◌, ◌++◌, Option, Some, None, codes}
+use Rattle.std.specs.Prelude.{ℕ, List, [], ◌∷◌, ◌++◌, Option, Some, None, codes}
 use Prim.Native.String.{String}
 use Rattle.std.specs.List.{flat_map, join_by}
 use Rattle.policy_ast.specs.declared.token.TokenKind.{TokenKind}

@@ -1,7 +1,7 @@
 -- The tokens of a line of a small policy: words, numbers and the symbols that small policies have, always the longest
 -- that fits. A line with any other piece (a text, a comment, another symbol, a word of more than 64 bytes, a number out
 -- of range) has none, since no small policy has such a piece.
-use Rattle.std.specs.Prelude.{ℕ, ℤ, pos, neg_ℤ, ◌^◌, ◌==◌, ◌||◌, nat_lt, nat_le, Bool, true, false, if◌then◌else◌, List, [], ◌∷◌, ◌++◌, length, drop, slice_index, Option, Some, None, option_map, option_and_then, suc, zero}
+use Rattle.std.specs.Prelude.{ℕ, pos, neg_ℤ, ◌^◌, ◌==◌, ◌||◌, nat_lt, nat_le, Bool, true, false, if◌then◌else◌, List, [], ◌∷◌, ◌++◌, length, drop, slice_index, Option, Some, None, option_map, option_and_then, suc, zero}
 use Rattle.std.specs.List.{take_while}
 use Rattle.std.specs.Str.{byte}
 use Rattle.std.specs.Str.Parse.{digits_value}

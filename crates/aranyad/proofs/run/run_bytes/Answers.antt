@@ -1,7 +1,7 @@
-use Rattle.std.proofs.Common.{Some, [], ◌∷◌, refl, sym, ap, ◌∙◌}
+use Rattle.std.proofs.Common.{Some, sym, ap, ◌∙◌}
 use Rattle.aranyad.specs.declared.status.Status.TheVariants as status
 use Rattle.aranyad.specs.Outcome.{script_outcome, lines_outcome, refused}
-use Rattle.aranyad.specs.first.Script.{said, script_of}
+use Rattle.aranyad.specs.first.Script.{said}
 use Rattle.aranyad.proofs.Runs.{runs_anyway}
 use Rattle.aranyad.proofs.run.run_bytes.Goals as goal
 

@@ -1,6 +1,5 @@
-use Rattle.std.proofs.Common.{[], ap, ◌∙◌, arith}
+use Rattle.std.proofs.Common.{[], arith}
 use Rattle.std.specs.List.{concat}
-use Rattle.std.specs.Io.KnownBytes.{append_known}
 use Rattle.aranyad.specs.first.Running.{texts}
 use Rattle.aranyad.proofs.LineTexts.{line_written, line_halted}
 use Rattle.aranyad.proofs.run.run_lines.Goals as goal

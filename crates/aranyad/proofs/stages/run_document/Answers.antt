@@ -1,6 +1,5 @@
-use Rattle.std.proofs.Common.{◌≡◌, ℕ, List, Some, None, subst}
+use Rattle.std.proofs.Common.{ℕ, List, Some, None, subst}
 use Rattle.aranyad.specs.declared.ending.Halt.TheVariants as halt
-use Rattle.aranyad.specs.first.Document.{IsReading}
 use Rattle.aranyad.specs.Outcome.{RunsTo, limited, script_limit, reading_outcome, script_outcome}
 use Rattle.aranyad.proofs.Readings.{for_each_reading}
 use Rattle.aranyad.proofs.Runs.{told_both, told_map, halted_at_once}

@@ -1,4 +1,4 @@
-use Rattle.std.proofs.Common.{◌≡◌, Some, ap, ◌∙◌}
+use Rattle.std.proofs.Common.{Some, ap, ◌∙◌}
 use Rattle.aranyad.specs.Outcome.{limited, script_limit, policy_limit}
 use Rattle.aranyad.proofs.Readings.{files_read, files_too_long}
 use Rattle.aranyad.proofs.Runs.{told_after, told_both, told_from, halted_at_once}

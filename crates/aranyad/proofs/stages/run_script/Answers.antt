@@ -1,4 +1,4 @@
-use Rattle.aranyad.specs.Outcome.{RunsTo, limited, script_limit, script_outcome}
+use Rattle.aranyad.specs.Outcome.{limited, script_limit, script_outcome}
 use Rattle.aranyad.proofs.Runs.{told_both, halted_at_once}
 use Rattle.aranyad.proofs.stages.run_script.Goals as goal
 

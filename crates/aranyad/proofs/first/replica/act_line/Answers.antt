@@ -1,4 +1,3 @@
-use Rattle.std.proofs.Common.{ap, ◌∙◌}
 use Rattle.aranyad.specs.first.Acting as acting
 use Rattle.aranyad.specs.first.Running as running
 use Rattle.aranyad.proofs.Leading.{published_leads}

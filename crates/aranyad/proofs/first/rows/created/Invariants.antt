@@ -1,4 +1,4 @@
-use Rattle.std.proofs.Common.{◌≡◌, ◌++◌, ◌+◌, ◌-◌, ◌≤◌, Option, Some, length, drop}
+use Rattle.std.proofs.Common.{◌≡◌, ◌++◌, ◌+◌, ◌-◌, ◌≤◌, Some, length, drop}
 use Rattle.std.specs.Option.{option_map}
 use Rattle.aranyad.specs.first.Facts.{created}
 use Rattle.aranyad.proofs.first.rows.created.Given as goal
