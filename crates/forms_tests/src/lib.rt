@@ -8,4 +8,6 @@ mod keys;
 #[cfg(test)]
 mod lists;
 #[cfg(test)]
+mod outside_objects;
+#[cfg(test)]
 mod payloads;
