@@ -1,5 +1,5 @@
 -- How a run ends, by its statuses; and which counts must have risen where it was halted.
-use Rattle.std.specs.Prelude.{◌≡◌, ◌≢◌, ℕ, ◌≤◌, List, Option, Some, Result, Ok, Err, OnErr}
+use Rattle.std.specs.Prelude.{◌≡◌, ◌≢◌, ℕ, ◌≤◌, List, Option, Some, Result, Ok, Err}
 use Rattle.outside.specs.Causes.{Rose}
 use Rattle.aranyad.specs.declared.ending.Ending.{Ending}
 use Rattle.aranyad.specs.declared.ending.Ending.TheVariants as ending
@@ -59,7 +59,9 @@ pub record ReadHalts {T : Type 0} (name : List ℕ) (old new : ℕ) (last : Opti
 -- the same of a write
 pub record WriteHalts {T : Type 0} (old new : ℕ) (result : Result T Halt) : Type 0 where
   pub later : old ≤ new
-  pub failed : OnErr result ((result ≡ Err halt.Write) × Rose old new)
+  pub write : result ≡ Err halt.Write → Rose old new
+  pub no_read : result ≢ Err halt.Read
+  pub no_seal : result ≢ Err halt.Seal
 
 -- the same of lines that are run: the envelope and the sink alone may halt them
 pub record LinesHalt {T : Type 0} (seals_old seals_new writes_old writes_new : ℕ) (result : Result T Halt) : Type 0 where

@@ -1,6 +1,6 @@
 -- What a run of the program prints and how it ends: a function of the words, the files and the script's lines, once it is
 -- said which policy the document is.
-use Rattle.std.specs.Prelude.{◌≡◌, ℕ, nat_lt, ◌++◌, ◌^◌, if◌then◌else◌, List, [], ◌∷◌, length, codes, Option, Some, None, Result, Ok, Err, MatchResult}
+use Rattle.std.specs.Prelude.{◌≡◌, ℕ, nat_lt, if◌then◌else◌, List, [], ◌∷◌, length, codes, Option, Some, None, Result, Ok, Err, MatchResult}
 use Rattle.std.specs.List.{concat}
 use Rattle.std.specs.Fmt.{decimal}
 use Rattle.std.specs.Io.KnownBytes.{append_known}
@@ -32,13 +32,13 @@ text_of outcome = concat outcome.pieces
 
 -- an end with one line, and one with none
 abbrev pub refused : Status → List ℕ → Outcome
-refused end line = record { status = end; pieces = (line ++ codes "\n") ∷ [] }
+refused end line = record { status = end; pieces = line ∷ [] }
 
 abbrev pub ended : Status → Outcome
 ended end = record { status = end; pieces = [] }
 
 abbrev pub usage_line : List ℕ
-usage_line = codes "usage: aranyad check POLICY | run POLICY SCRIPT [--store DIR] | code POLICY | gen N | serve POLICY SCRIPT --rounds N"
+usage_line = codes "usage: aranyad check POLICY | run POLICY SCRIPT [--store DIR] | code POLICY | gen N | serve POLICY SCRIPT --rounds N\n"
 
 abbrev pub policy_limit : ℕ
 policy_limit = 1048576
@@ -55,22 +55,22 @@ module _ (tagged : Tagging) (digest : List ℕ) (policy : SmallPolicy) where
   -- the script's lines are run in order, or its first bad line is named
   abbrev pub lines_outcome : Result (List Line) ℕ → Outcome
   lines_outcome (Ok lines) = record { status = status.Done; pieces = texts tagged digest policy.items [] lines }
-  lines_outcome (Err line) = refused status.ScriptRefused (codes "script refused: line " ++ decimal line)
+  lines_outcome (Err line) = refused status.ScriptRefused (concat (codes "script refused: line " ∷ decimal line ∷ codes "\n" ∷ []))
 
   abbrev pub script_outcome : Option (Option (List ℕ)) → Outcome
   script_outcome None = ended status.ReadFault
-  script_outcome (Some None) = refused status.TooLarge (codes "too large: script")
+  script_outcome (Some None) = refused status.TooLarge (codes "too large: script\n")
   script_outcome (Some (Some script)) = lines_outcome (script_of policy.items script)
 
 -- a document that is no small policy is refused, before the script is read
 abbrev pub reading_outcome : Tagging → List ℕ → Option (Option (List ℕ)) → Option SmallPolicy → Outcome
-reading_outcome tagged document script None = refused status.PolicyRefused (codes "policy refused: unbuilt")
+reading_outcome tagged document script None = refused status.PolicyRefused (codes "policy refused: unbuilt\n")
 reading_outcome tagged document script (Some policy) = script_outcome tagged (sha256 document) policy script
 
 -- a run over the policy's file and the script's
 abbrev pub RunsFiles : Tagging → Option (Option (List ℕ)) → Option (Option (List ℕ)) → Outcome → Type 0
 RunsFiles tagged None script outcome = outcome ≡ ended status.ReadFault
-RunsFiles tagged (Some None) script outcome = outcome ≡ refused status.TooLarge (codes "too large: policy")
+RunsFiles tagged (Some None) script outcome = outcome ≡ refused status.TooLarge (codes "too large: policy\n")
 RunsFiles tagged (Some (Some document)) script outcome =
     (found : Option SmallPolicy) × IsReading document found × (outcome ≡ reading_outcome tagged document script found)
 

@@ -15,16 +15,13 @@ use crate::first::script::{Line, Script};
 use crate::first::script_reader::read_script;
 use crate::first::texts::joined;
 use crate::written::write_all;
-use base_bytes::{Bytes, Id, Text};
+use base_bytes::{Bytes, Id, NoMemory, Text};
 use outside::{Envelope, Files, ReadFail, Sink};
 use sqlite_items::Items;
 use std::alloc::Global;
 
-/// A script has at most so many bytes.
-const SCRIPT_LIMIT: u64 = 4_194_304;
-
 /// A file's bytes, and None where it has more than the limit.
-fn read_limited<F: Files>(
+pub fn read_limited<F: Files>(
     alloc: Global,
     files: &mut F,
     name: Text,
@@ -49,7 +46,7 @@ fn read_limited<F: Files>(
 }
 
 /// Writes the line of a refusal, its line feed with it, and answers the ending.
-fn refuse<K: Sink>(out: &mut K, ending: Ending, line: &[u8]) -> Result<Ending, Halt>
+pub fn refuse<K: Sink>(out: &mut K, ending: Ending, line: &[u8]) -> Result<Ending, Halt>
     ensures run { RunsTo result (record { status = ending_status ending; pieces = line.now ∷ [] }) (K.written out.old) (K.written out.new) }
     ensures cause { WriteHalts (K.faults out.old) (K.faults out.new) result }
 {
@@ -59,17 +56,12 @@ fn refuse<K: Sink>(out: &mut K, ending: Ending, line: &[u8]) -> Result<Ending, H
     }
 }
 
-/// Writes which line of a script is refused.
-fn refuse_line<K: Sink>(alloc: Global, out: &mut K, line: u32) -> Result<Ending, Halt>
-    ensures run { RunsTo result (refused status.ScriptRefused (codes "script refused: line " ++ decimal line)) (K.written out.old) (K.written out.new) }
-    ensures cause { WriteHalts (K.faults out.old) (K.faults out.new) result }
+/// The line that says which line of a script is refused.
+fn refused_line(alloc: Global, line: u32) -> Result<Bytes, NoMemory>
+    ensures { IfOk result (λ text. text ≡ concat (codes "script refused: line " ∷ decimal line ∷ codes "\n" ∷ [])) }
 {
-    let number = match line.to_string(alloc) {
-        Ok(number) => number,
-        Err(_) => return Err(Halt::Memory),
-    };
-    let text = joined(alloc, &["script refused: line ", number.as_str(), "\n"])?;
-    refuse(out, Ending::ScriptRefused, text.as_slice())
+    let number = line.to_string(alloc)?;
+    joined(alloc, &["script refused: line ", number.as_str(), "\n"])
 }
 
 /// Runs the lines of a script in order, and writes the text of each before the next begins.
@@ -101,35 +93,36 @@ fn run_lines<E: Envelope, K: Sink>(
     Ok(())
 }
 
-/// Runs the script's file under a policy, whose document has this digest.
-fn run_script<F: Files, E: Envelope, K: Sink>(
+/// Runs a script that was read up to its limit, under a policy whose document has this digest.
+#[tactic(auto, using(crate::proofs::Pieces::front_of_none))]
+pub fn run_bytes<E: Envelope, K: Sink>(
     alloc: Global,
     digest: &Id,
     policy: &SmallPolicy,
-    script: Text,
-    files: &mut F,
+    script: Option<Bytes>,
     env: &mut E,
     out: &mut K,
 ) -> Result<Ending, Halt>
     requires { IsTrue (is_sound policy.now.items) }
     ensures run {
-        IfSome (F.holds files.old) (λ at. IfSome E.tag_of (λ tagged.
-            RunsTo result (script_outcome tagged digest.now policy.now (limited script_limit (at script))) (K.written out.old) (K.written out.new)))
+        IfSome E.tag_of (λ tagged. RunsTo result (script_outcome tagged digest.now policy.now (Some script)) (K.written out.old) (K.written out.new))
     }
-    ensures cause {
-        HaltsWithCause (counts (F.faults files.old) (E.faults env.old) (K.faults out.old)) (counts (F.faults files.new) (E.faults env.new) (K.faults out.new)) result
-    }
-    ensures name { NamesFile script (F.last files.new) result }
+    ensures cause { LinesHalt (E.faults env.old) (E.faults env.new) (K.faults out.old) (K.faults out.new) result }
 {
-    let bytes = match read_limited(alloc, files, script, SCRIPT_LIMIT)? {
-        Some(bytes) => bytes,
+    let script = match script {
+        Some(script) => script,
         None => return refuse(out, Ending::TooLarge, b"too large: script\n"),
     };
-    match read_script(alloc, policy.items.as_slice(), bytes.as_slice())? {
-        Script::Lines(lines) => {
-            run_lines(alloc, digest, policy.items.as_slice(), lines.as_slice(), env, out)?;
-            Ok(Ending::Done)
-        }
-        Script::Refused(line) => refuse_line(alloc, out, line),
+    let items = policy.items.as_slice();
+    match read_script(alloc, items, script.as_slice()) {
+        Ok(Script::Lines(lines)) => match run_lines(alloc, digest, items, lines.as_slice(), env, out) {
+            Ok(()) => Ok(Ending::Done),
+            Err(halt) => Err(halt),
+        },
+        Ok(Script::Refused(line)) => match refused_line(alloc, line) {
+            Ok(text) => refuse(out, Ending::ScriptRefused, text.as_slice()),
+            Err(NoMemory) => Err(Halt::Memory),
+        },
+        Err(NoMemory) => Err(Halt::Memory),
     }
 }

@@ -22,7 +22,7 @@ pub use field::{EffectField, Field, FieldType};
 pub use finish::FinishStmt;
 pub use item::{Attribute, Item, Section};
 pub use literal::{Literal, PatternLiteral};
-pub use name::Name;
+pub use name::{Name, is_name};
 pub use policy::Policy;
 pub use statement::{Arm, ArmPattern, Else, IfStmt, Stmt};
 pub use token::{Token, TokenKind};

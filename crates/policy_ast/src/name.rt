@@ -30,7 +30,7 @@ impl Name {
         ensures found { IsSome result ↔ IsTrue (is_name text) }
         ensures value { IfSome result (λ n. n ≡ text) }
     {
-        if is_word(text.as_slice()) && !is_reserved(text.as_str()) {
+        if is_name(text.as_slice()) {
             Some(Name { text })
         } else {
             None
@@ -72,6 +72,13 @@ impl Eq for Name {
     ghost use Rattle.std.proofs.lemmas.Slice.Eq.{bytes_eq-Decides};
 
     ghost laws = { Prim.search rules };
+}
+
+/// Whether bytes are a name: a word that isn't reserved.
+pub fn is_name(bytes: &[u8]) -> bool
+    ensures { result ≡ is_name bytes.now }
+{
+    is_word(bytes) && !is_reserved(bytes)
 }
 
 /// The words that the grammar keeps for itself.
@@ -120,14 +127,14 @@ const RESERVED: [&str; 41] = [
 ];
 
 #[tactic(auto, unfolding(crate::specs::Words::is_reserved))]
-fn is_reserved(word: &str) -> bool
+fn is_reserved(word: &[u8]) -> bool
     ensures { result ≡ is_reserved word.now }
 {
     is_among(&RESERVED, word)
 }
 
-fn is_among(words: &[&str], word: &str) -> bool
+fn is_among(words: &[&str], word: &[u8]) -> bool
     ensures { result ≡ list_any (λ other. bytes_eq word.now other.now) words.now }
 {
-    words.iter().any(|other| word == *other)
+    words.iter().any(|other| word == other.as_bytes())
 }

@@ -165,7 +165,7 @@ fn symbol_at(first: u8, behind: &[u8]) -> Option<(TokenKind, &[u8])>
 }
 
 /// The symbol that a byte makes with the byte behind it, and whether it takes both.
-fn symbol_of(first: u8, next: u8) -> Option<(u8, bool)>
+pub fn symbol_of(first: u8, next: u8) -> Option<(u8, bool)>
     ensures { result ≡ symbol_of first next }
 {
     match first {

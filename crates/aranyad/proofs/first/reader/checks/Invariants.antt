@@ -1,0 +1,9 @@
+use Rattle.std.proofs.Common.{◌≡◌, ◌++◌, ◌-◌, true, false, length, map, option_map}
+use Rattle.aranyad.specs.declared.first.forms.TheConstants.{CLOSED, LET}
+use Rattle.aranyad.specs.first.Reading.{parts, read_bind, read_check, read_field}
+use Rattle.aranyad.proofs.first.reader.checks.Given as goal
+
+abbrev pub invariant-loop : goal.invariant-loop
+invariant-loop l =
+    option_map (λ p. (l.found ++ p.0, p.1)) (parts (map (λ t. t.now) LET) true read_check (length l.tokens - l.counter) true l.rest)
+    ≡ parts (map (λ t. t.now) LET) true read_check (length l.tokens) true l.tokens

@@ -1,0 +1,16 @@
+use Rattle.std.proofs.Common.{Err, ap}
+use Rattle.aranyad.specs.declared.ending.Halt.TheVariants as halt
+use Rattle.aranyad.specs.Modes.{mode_of}
+use Rattle.aranyad.proofs.Readings.{usage_runs}
+use Rattle.aranyad.proofs.Runs.{told_both, halted_at_once}
+use Rattle.aranyad.proofs.run_command.run_words.Goals as goal
+
+pub returns-in-Usage-clause-run : goal.returns-in-Usage-clause-run
+returns-in-Usage-clause-run g c =
+    told_both (g.F.Files.holds c.args.files.now) g.E.Envelope.tag_of _ (λ at tagged.
+        usage_runs tagged at (mode_of c.args.words.now) c.refuse.result _ _ (c.in-Err.ensures.usage (ap Err c.in-Usage.is))
+            (rw c.as_bytes.ensures.value at c.refuse.ensures.run))
+
+pub returns-in-NoMemory-clause-run : goal.returns-in-NoMemory-clause-run
+returns-in-NoMemory-clause-run g c =
+    told_both (g.F.Files.holds c.args.files.now) g.E.Envelope.tag_of _ (λ at tagged outcome runs. halted_at_once outcome halt.Memory (g.K.Sink.written c.args.out.now))

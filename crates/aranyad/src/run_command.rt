@@ -1,0 +1,95 @@
+ghost use Rattle.std.specs.Prelude.{◌≡◌, ◌≢◌, Some, Err, IfSome, vec_len};
+ghost use Rattle.outside.specs.Causes.{Rose};
+ghost use Rattle.aranyad.specs.Ending.{HaltsWithCause, counts};
+ghost use Rattle.aranyad.specs.Modes.{NamesOne, mode_of};
+ghost use Rattle.aranyad.specs.Outcome.{Follows, Outcome, Runs, RunsMode, RunsTo};
+ghost use Rattle.aranyad.specs.declared.ending.Halt.TheVariants as halt;
+
+use crate::choose::{ChooseFault, choose};
+use crate::ending::{Ending, Halt};
+use crate::mode::Mode;
+use crate::run::refuse;
+use crate::stages::run_files;
+use crate::status::Status;
+use base_bytes::Text;
+use outside::{Disk, Envelope, Files, Sink};
+use std::alloc::Global;
+
+/// What is printed where the words are no words of a mode.
+const USAGE: &str = "usage: aranyad check POLICY | run POLICY SCRIPT [--store DIR] | code POLICY | gen N | serve POLICY SCRIPT --rounds N\n";
+
+/// Runs a mode.
+fn run_mode<F: Files, E: Envelope, K: Sink>(
+    alloc: Global,
+    mode: Mode,
+    files: &mut F,
+    env: &mut E,
+    out: &mut K,
+) -> Result<Ending, Halt>
+    ensures run {
+        IfSome (F.holds files.old) (λ at. IfSome E.tag_of (λ tagged. (outcome : Outcome) → RunsMode tagged at (Some mode) outcome →
+            RunsTo result outcome (K.written out.old) (K.written out.new)))
+    }
+    ensures cause {
+        HaltsWithCause (counts (F.faults files.old) (E.faults env.old) (K.faults out.old)) (counts (F.faults files.new) (E.faults env.new) (K.faults out.new)) result
+    }
+    ensures name { result ≡ Err halt.Read → NamesOne (Some mode) (F.last files.new) }
+{
+    let Mode::Run(policy, script, _store) = mode;
+    run_files(alloc, policy, script, files, env, out)
+}
+
+/// Does what the words ask for.
+fn run_words<F: Files, E: Envelope, K: Sink>(
+    alloc: Global,
+    words: &[Text],
+    files: &mut F,
+    env: &mut E,
+    out: &mut K,
+) -> Result<Ending, Halt>
+    ensures run {
+        IfSome (F.holds files.old) (λ at. IfSome E.tag_of (λ tagged. (outcome : Outcome) → Runs tagged at words.now outcome →
+            RunsTo result outcome (K.written out.old) (K.written out.new)))
+    }
+    ensures cause {
+        HaltsWithCause (counts (F.faults files.old) (E.faults env.old) (K.faults out.old)) (counts (F.faults files.new) (E.faults env.new) (K.faults out.new)) result
+    }
+    ensures name { result ≡ Err halt.Read → NamesOne (mode_of words.now) (F.last files.new) }
+{
+    match choose(alloc, words) {
+        Ok(mode) => run_mode(alloc, mode, files, env, out),
+        Err(fault) => match fault {
+            ChooseFault::Usage => refuse(out, Ending::Usage, USAGE.as_bytes()),
+            ChooseFault::NoMemory => Err(Halt::Memory),
+        },
+    }
+}
+
+/// Runs the program on the words after its name: reads the policy and the script, runs the script's lines in order, and
+/// writes the text of each before the next begins. The disks are left as they are until journals are kept.
+pub fn run_command<F: Files, D: Disk, E: Envelope, K: Sink>(
+    alloc: Global,
+    words: &[Text],
+    files: &mut F,
+    disks: &mut Vec<D>,
+    env: &mut E,
+    out: &mut K,
+) -> Status
+    requires { vec_len disks.old ≡ 8 }
+    ensures run {
+        IfSome (F.holds files.old) (λ at. IfSome E.tag_of (λ tagged. (outcome : Outcome) → Runs tagged at words.now outcome →
+            Follows result outcome (K.written out.old) (K.written out.new)))
+    }
+    ensures disks { disks.new.items ≡ disks.old.items }
+    ensures read { result ≡ Status.ReadFault → Rose (F.faults files.old) (F.faults files.new) }
+    ensures name { result ≡ Status.ReadFault → NamesOne (mode_of words.now) (F.last files.new) }
+    ensures write { result ≡ Status.WriteFault → Rose (K.faults out.old) (K.faults out.new) }
+    ensures seal { result ≡ Status.SealFault → Rose (E.faults env.old) (E.faults env.new) }
+    ensures no_disk { result ≢ Status.DiskFault }
+    ensures no_journal { result ≢ Status.JournalRefused }
+{
+    match run_words(alloc, words, files, env, out) {
+        Ok(ending) => ending.status(),
+        Err(halt) => halt.status(),
+    }
+}

@@ -1,0 +1,98 @@
+ghost use Rattle.std.specs.Prelude.{◌≡◌, ◌⊎◌, Option, Some, Err, IsTrue, IfSome};
+ghost use Rattle.aranyad.specs.Ending.{HaltsWithCause, NamesFile, counts};
+ghost use Rattle.aranyad.specs.Outcome.{Outcome, RunsFiles, RunsTo, limited, policy_limit, reading_outcome, script_limit, script_outcome};
+ghost use Rattle.aranyad.specs.declared.ending.Halt.TheVariants as halt;
+ghost use Rattle.aranyad.specs.declared.first.policy.SmallPolicy.{SmallPolicy};
+ghost use Rattle.aranyad.specs.first.Document.{IsReading};
+ghost use Rattle.aranyad.specs.first.Sound.{is_sound};
+
+use crate::ending::{Ending, Halt};
+use crate::first::document::read_policy;
+use crate::first::policy::SmallPolicy;
+use crate::run::{read_limited, refuse, run_bytes};
+use base_bytes::{Id, NoMemory, Text, sha256};
+use outside::{Envelope, Files, Sink};
+use std::alloc::Global;
+
+/// A policy document has at most so many bytes.
+const POLICY_LIMIT: u64 = 1_048_576;
+
+/// A script has at most so many bytes.
+const SCRIPT_LIMIT: u64 = 4_194_304;
+
+/// Runs the script's file under a policy, whose document has this digest.
+fn run_script<F: Files, E: Envelope, K: Sink>(
+    alloc: Global,
+    digest: &Id,
+    policy: &SmallPolicy,
+    script: Text,
+    files: &mut F,
+    env: &mut E,
+    out: &mut K,
+) -> Result<Ending, Halt>
+    requires { IsTrue (is_sound policy.now.items) }
+    ensures run {
+        IfSome (F.holds files.old) (λ at. IfSome E.tag_of (λ tagged.
+            RunsTo result (script_outcome tagged digest.now policy.now (limited script_limit (at script))) (K.written out.old) (K.written out.new)))
+    }
+    ensures cause {
+        HaltsWithCause (counts (F.faults files.old) (E.faults env.old) (K.faults out.old)) (counts (F.faults files.new) (E.faults env.new) (K.faults out.new)) result
+    }
+    ensures name { NamesFile script (F.last files.new) result }
+{
+    match read_limited(alloc, files, script, SCRIPT_LIMIT) {
+        Ok(bytes) => run_bytes(alloc, digest, policy, bytes, env, out),
+        Err(halt) => Err(halt),
+    }
+}
+
+/// Runs a policy's document that was read up to its limit, and then the script's file.
+fn run_document<F: Files, E: Envelope, K: Sink>(
+    alloc: Global,
+    document: &[u8],
+    script: Text,
+    files: &mut F,
+    env: &mut E,
+    out: &mut K,
+) -> Result<Ending, Halt>
+    ensures run {
+        IfSome (F.holds files.old) (λ at. IfSome E.tag_of (λ tagged. (found : Option SmallPolicy) → IsReading document.now found →
+            RunsTo result (reading_outcome tagged document.now (limited script_limit (at script)) found) (K.written out.old) (K.written out.new)))
+    }
+    ensures cause {
+        HaltsWithCause (counts (F.faults files.old) (E.faults env.old) (K.faults out.old)) (counts (F.faults files.new) (E.faults env.new) (K.faults out.new)) result
+    }
+    ensures name { NamesFile script (F.last files.new) result }
+{
+    match read_policy(alloc, document) {
+        Ok(Some(policy)) => run_script(alloc, &sha256(document), &policy, script, files, env, out),
+        Ok(None) => refuse(out, Ending::PolicyRefused, b"policy refused: unbuilt\n"),
+        Err(NoMemory) => Err(Halt::Memory),
+    }
+}
+
+/// Runs the policy's file, and then the script's.
+pub fn run_files<F: Files, E: Envelope, K: Sink>(
+    alloc: Global,
+    policy: Text,
+    script: Text,
+    files: &mut F,
+    env: &mut E,
+    out: &mut K,
+) -> Result<Ending, Halt>
+    ensures run {
+        IfSome (F.holds files.old) (λ at. IfSome E.tag_of (λ tagged. (outcome : Outcome) →
+            RunsFiles tagged (limited policy_limit (at policy)) (limited script_limit (at script)) outcome →
+            RunsTo result outcome (K.written out.old) (K.written out.new)))
+    }
+    ensures cause {
+        HaltsWithCause (counts (F.faults files.old) (E.faults env.old) (K.faults out.old)) (counts (F.faults files.new) (E.faults env.new) (K.faults out.new)) result
+    }
+    ensures name { result ≡ Err halt.Read → (F.last files.new ≡ Some policy) ⊎ (F.last files.new ≡ Some script) }
+{
+    match read_limited(alloc, files, policy, POLICY_LIMIT) {
+        Ok(Some(document)) => run_document(alloc, document.as_slice(), script, files, env, out),
+        Ok(None) => refuse(out, Ending::TooLarge, b"too large: policy\n"),
+        Err(halt) => Err(halt),
+    }
+}
