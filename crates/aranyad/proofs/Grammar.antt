@@ -18,7 +18,7 @@ use Rattle.aranyad.specs.first.Reading.{Form, Reader, after, behind, ended, form
 use Rattle.aranyad.proofs.Formats.{IsFormat, after_only, after_reads, behind_format, bind_then, chosen_then, ended_format, made_format, map_then, named_format, number_format, pair_format, respelled, same_some, some_of}
 use Rattle.aranyad.proofs.Rows.{lead, parts_format, rows_listed, rows_many}
 
-pub fact_format : IsFormat fact_spelling read_fact
+fact_format : IsFormat fact_spelling read_fact
 fact_format =
     respelled
     (made_format (pair_format (named_format (map (λ t. t.now) FACT)) (pair_format (named_format (map (λ t. t.now) KEYS_OPENED)) (ended_format (named_format (map (λ t. t.now) FACT_VALUES)) (map (λ t. t.now) FACT_CLOSED))))
@@ -47,14 +47,14 @@ parameters_format : IsFormat (λ names. spelling.listed field_spelling names ++ 
 parameters_format = respelled (parts_format field_spelling false field_format (map (λ t. t.now) PARAMETERS_CLOSED) (omega arith) (λ name. omega arith) parameters_unclosed) _
     (λ names. ap (λ r. r ++ form_tokens (map (λ t. t.now) PARAMETERS_CLOSED)) (rows_listed field_spelling names))
 
-pub effect_format : IsFormat effect_spelling read_effect
+effect_format : IsFormat effect_spelling read_effect
 effect_format =
     respelled
     (made_format (pair_format (named_format (map (λ t. t.now) EFFECT)) (behind_format fields_format (map (λ t. t.now) OPENED)))
     _ (λ e. (e.name, e.fields)) (λ p. refl) (λ e. refl))
     effect_spelling (λ e. refl)
 
-pub start_format : IsFormat start_spelling read_start
+start_format : IsFormat start_spelling read_start
 start_format =
     respelled
     (made_format (ended_format (ended_format (ended_format (ended_format (named_format (map (λ t. t.now) COMMAND)) (map (λ t. t.now) START_OPENED)) (map (λ t. t.now) SEAL)) (map (λ t. t.now) OPEN_AND_POLICY)) (map (λ t. t.now) START_CLOSED))
@@ -150,7 +150,7 @@ end_format = record {
       subst (λ q. ts ≡ end_spelling q.0 ++ q.1) here (after_only (map (λ t. t.now) BASIC_CLOSED) ts rest ends));
 }
 
-pub basic_format : IsFormat basic_spelling read_basic
+basic_format : IsFormat basic_spelling read_basic
 basic_format =
     respelled
     (made_format
@@ -164,7 +164,7 @@ basic_format =
 action_grouped : (l c e : Tokens) (x y z : TokenKind) → (l ++ x ∷ []) ++ (y ∷ z ∷ (c ++ e)) ≡ ((l ++ x ∷ y ∷ z ∷ []) ++ c) ++ e
 action_grouped l c e x y z = simp append_assoc
 
-pub action_format : IsFormat action_spelling read_action
+action_format : IsFormat action_spelling read_action
 action_format =
     respelled
     (made_format
@@ -240,9 +240,6 @@ item_only ts p is =
     first_then (made item.Start read_start ts) _ p is (made_only start_format item.Start (λ s. refl) ts p) (λ none is.
     first_then (made item.Basic read_basic ts) _ p is (made_only basic_format item.Basic (λ b. refl) ts p) (λ none is.
     made_only action_format item.Action (λ a. refl) ts p is))))
-
-pub item_format : IsFormat item_spelling read_item
-item_format = record { reads = item_reads; only = item_only }
 
 some_item : (x : Item) → 0 < length (item_spelling x)
 some_item (item.Fact f) = omega arith

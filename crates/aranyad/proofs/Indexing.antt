@@ -23,10 +23,10 @@ by_test false holds fails = fails refl
 same_either_way : (a b : Name) → bytes_eq a b ≡ bytes_eq b a
 same_either_way a b =
     by_test (bytes_eq a b)
-      (λ yes. yes ∙ sym ((bytes_eq-Decides b a).1 (sym ((bytes_eq-Decides a b).0 yes))))
-      (λ no. by_test (bytes_eq b a)
-        (λ yes. let yes_too : bytes_eq a b ≡ true = (bytes_eq-Decides a b).1 (sym ((bytes_eq-Decides b a).0 yes)) in absurd (true≢false (sym yes_too ∙ no)))
-        (λ no_too. no ∙ sym no_too))
+    (λ yes. yes ∙ sym ((bytes_eq-Decides b a).1 (sym ((bytes_eq-Decides a b).0 yes))))
+    (λ no. by_test (bytes_eq b a)
+    (λ yes. let yes_too : bytes_eq a b ≡ true = (bytes_eq-Decides a b).1 (sym ((bytes_eq-Decides b a).0 yes)) in absurd (true≢false (sym yes_too ∙ no)))
+    (λ no_too. no ∙ sym no_too))
 
 regroup : (a b d m : Bool) → (not (a || (b || false)) && (d && not m)) ≡ ((not a && d) && not (b || m))
 regroup true b d m = refl
@@ -38,7 +38,7 @@ pub distinct_push : (names : List Name) (name : Name) → are_distinct (names ++
 distinct_push [] name = refl
 distinct_push (first ∷ names) name =
     rw (list_any-append (bytes_eq first) names (name ∷ []), distinct_push names name, same_either_way first name)
-      (regroup (is_among first names) (bytes_eq name first) (are_distinct names) (is_among name names))
+    (regroup (is_among first names) (bytes_eq name first) (are_distinct names) (is_among name names))
 
 or_true : (b : Bool) → (b || true) ≡ true
 or_true true = refl
@@ -59,23 +59,23 @@ repeated [] i d within is = absurd (omega arith)
 repeated (x ∷ items) zero d within is = absurd (true≢false (sym is))
 repeated (x ∷ items) (suc i) d within is =
     by_test (bytes_eq (name_of (get_or items i d)) (name_of x))
-      (λ same. rw (among_at items i d (name_of x) (omega arith) (same_either_way (name_of x) (name_of (get_or items i d)) ∙ same)) refl)
-      (λ other. rw (repeated items i d (omega arith) (rw other at is)) (and_false (not (is_among (name_of x) (map name_of items)))))
+    (λ same. rw (among_at items i d (name_of x) (omega arith) (same_either_way (name_of x) (name_of (get_or items i d)) ∙ same)) refl)
+    (λ other. rw (repeated items i d (omega arith) (rw other at is)) (and_false (not (is_among (name_of x) (map name_of items)))))
 
 -- what is found has the name, and what isn't found is nowhere
 pub found_among : (items : List Item) (q : Name) (y : Item) → item_named items q ≡ Some y → is_among q (map name_of items) ≡ true
 found_among [] q y is = absurd (cc)
 found_among (x ∷ items) q y is =
     by_test (bytes_eq (name_of x) q)
-      (λ same. rw (same_either_way q (name_of x), same) refl)
-      (λ other. rw (found_among items q y (rw other at is)) (or_true (bytes_eq q (name_of x))))
+    (λ same. rw (same_either_way q (name_of x), same) refl)
+    (λ other. rw (found_among items q y (rw other at is)) (or_true (bytes_eq q (name_of x))))
 
 pub missing_among : (items : List Item) (q : Name) → item_named items q ≡ None → is_among q (map name_of items) ≡ false
 missing_among [] q is = refl
 missing_among (x ∷ items) q is =
     by_test (bytes_eq (name_of x) q)
-      (λ same. let found : Some x ≡ None = rw same at is in absurd (cc))
-      (λ other. rw (same_either_way q (name_of x), other) (missing_among items q (rw other at is)))
+    (λ same. let found : Some x ≡ None = rw same at is in absurd (cc))
+    (λ other. rw (same_either_way q (name_of x), other) (missing_among items q (rw other at is)))
 
 -- what an index kept under a name before
 pub some_among : (items : List Item) (q : Name) (o : Option (Bor Item)) → true ≡ is_some o → option_map (λ r. r.now) o ≡ item_named items q → is_among q (map name_of items) ≡ true
@@ -112,10 +112,15 @@ pub named_more : (items : List Item) (i : ℕ) (d : Item) (q : Name) → i < len
 named_more items i d q within none =
     let x = get_or items i d in
     rw (take_more items i d within, find-append (λ y. bytes_eq (name_of y) q) (take i items) (x ∷ []))
-      (named_by (bytes_eq (name_of x) q) x (item_named (take i items) q) (λ same. rw (← (bytes_eq-Decides (name_of x) q).0 same) none))
+    (named_by (bytes_eq (name_of x) q) x (item_named (take i items) q) (λ same. rw (← (bytes_eq-Decides (name_of x) q).0 same) none))
 
 pub distinct_more : (items : List Item) (i : ℕ) (d : Item) → i < length items → item_named (take i items) (name_of (get_or items i d)) ≡ None
     → are_distinct (map name_of (take i items)) ≡ true → are_distinct (map name_of (take (i + 1) items)) ≡ true
 distinct_more items i d within none distinct =
-    rw (take_more items i d within, map-append name_of (take i items) (get_or items i d ∷ []), distinct_push (map name_of (take i items)) (name_of (get_or items i d)),
-      distinct, missing_among (take i items) (name_of (get_or items i d)) none) refl
+    rw (
+      take_more items i d within,
+      map-append name_of (take i items) (get_or items i d ∷ []),
+      distinct_push (map name_of (take i items)) (name_of (get_or items i d)),
+      distinct,
+      missing_among (take i items) (name_of (get_or items i d)) none,
+    ) refl

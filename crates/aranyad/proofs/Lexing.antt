@@ -55,9 +55,6 @@ pub digits_left : (xs : List ℕ) (c : ℕ) (cs : List ℕ) → Some (c, cs) ≡
     → drop (length (take_while is_ascii_digit cs)) cs ≡ drop (length (take_while is_ascii_digit xs)) xs
 digits_left xs c cs begins is = rw (front_is xs c cs begins, take_while-cons is_ascii_digit c cs, is) refl
 
-pub digits_end : (xs : List ℕ) (c : ℕ) (cs : List ℕ) → Some (c, cs) ≡ front xs → is_ascii_digit c ≡ false → take_while is_ascii_digit xs ≡ []
-digits_end xs c cs begins is = rw (front_is xs c cs begins, take_while-cons is_ascii_digit c cs, is) refl
-
 -- a number that is too large is none
 pub too_large : {A : Type 0} (value : ℕ) (x : A) → 2 ^ 63 < value → None ≡ (if nat_le value (2 ^ 63) then Some x else None)
 too_large value x large = rw (lt-leb value (2 ^ 63) large) refl

@@ -8,112 +8,54 @@ use Rattle.std.proofs.lemmas.Slice.Eq.{bytes_eq-Decides}
 use Rattle.aranyad.specs.declared.first.policy.Item.{Item}
 use Rattle.aranyad.specs.declared.first.policy.SmallPolicy.{SmallPolicy}
 use Rattle.aranyad.specs.first.Document.{IsReading, IsSmall, closing_line, opening_lines}
-use Rattle.aranyad.specs.first.Framing.{behind_line, behind_opening, closed_body, first_line, read_document, sound_policy}
+use Rattle.aranyad.specs.first.Framing.{Lines, behind_line, behind_opening, closed_body, read_document, sound_policy, without_closing}
 use Rattle.aranyad.specs.first.Reading.{read_items}
+use Rattle.aranyad.specs.first.Rest.{front}
 use Rattle.aranyad.specs.first.Sound.{is_sound}
 use Rattle.aranyad.specs.first.Spelling.{Tokens, spelling}
-use Rattle.aranyad.specs.first.Tokens.{line_tokens, lines_tokens}
+use Rattle.aranyad.specs.first.Tokens.{lines_tokens}
 use Rattle.aranyad.proofs.Formats.{bind_then, if_then, map_then, same_some}
 use Rattle.aranyad.proofs.Grammar.{read_is_spelled, spelled_is_read}
-use Rattle.aranyad.proofs.Bodies.{closed_more, lines_more, lines_none}
+use Rattle.aranyad.proofs.Bodies.{one_line_more}
+use Rattle.aranyad.proofs.Lexing.{front_is}
 
--- a line that is there
-behind_is : (expected bytes rest : List ℕ) → behind_line expected bytes ≡ Some rest → lines bytes ≡ expected ∷ lines rest
-behind_is expected bytes rest is = bind_then (first_line bytes) _ rest is (λ p begins same.
+-- a first line that is expected
+behind_is : (expected : List ℕ) (ls rest : Lines) → behind_line expected ls ≡ Some rest → ls ≡ expected ∷ rest
+behind_is expected ls rest is = bind_then (front ls) _ rest is (λ p begins same.
     if_then (bytes_eq p.0 expected) (Some p.1) None rest same (λ here there.
-    (lines_more bytes p.0 p.1 (sym begins)).0 ∙ ap (λ l. l ∷ lines p.1) ((bytes_eq-Decides p.0 expected).0 here) ∙ ap (λ r. expected ∷ lines r) (same_some p.1 rest there)))
-
-abbrev head_or : List ℕ → List (List ℕ) → List ℕ
-head_or d [] = d
-head_or d (x ∷ xs) = x
-
-abbrev tail_of : List (List ℕ) → List (List ℕ)
-tail_of [] = []
-tail_of (x ∷ xs) = xs
-
--- what is behind a line that is there
-record LineBehind (expected bytes : List ℕ) (others : List (List ℕ)) : Type 0 where
-  rest : List ℕ
-  found : behind_line expected bytes ≡ Some rest
-  left : lines rest ≡ others
-
-line_behind_at : (expected bytes : List ℕ) (others : List (List ℕ)) (o : Option (List ℕ × List ℕ)) → o ≡ first_line bytes → lines bytes ≡ expected ∷ others → LineBehind expected bytes others
-line_behind_at expected bytes others None is here = let none : [] ≡ expected ∷ others = sym (lines_none bytes is) ∙ here in absurd (cc)
-line_behind_at expected bytes others (Some p) is here =
-    let same : p.0 ∷ lines p.1 ≡ expected ∷ others = sym (lines_more bytes p.0 p.1 is).0 ∙ here in
-    let line : p.0 ≡ expected = ap (head_or []) same in
-    record {
-      rest = p.1;
-      found = rw (← is, (bytes_eq-Decides p.0 expected).1 line) refl;
-      left = ap tail_of same;
-    }
-
-line_behind : (expected bytes : List ℕ) (others : List (List ℕ)) → lines bytes ≡ expected ∷ others → LineBehind expected bytes others
-line_behind expected bytes others here = line_behind_at expected bytes others (first_line bytes) refl here
+    front_is ls p.0 p.1 (sym begins) ∙ ap (λ l. l ∷ p.1) ((bytes_eq-Decides p.0 expected).0 here) ∙ ap (λ r. expected ∷ r) (same_some p.1 rest there)))
 
 -- the opening lines
-opening_is : (document rest : List ℕ) → behind_opening document ≡ Some rest → lines document ≡ opening_lines ++ lines rest
-opening_is document rest is =
-    bind_then (option_and_then (behind_line (codes "---")) (option_and_then (behind_line (codes "policy-version: 2")) (behind_line (codes "---") document))) (behind_line (codes "```policy")) rest is (λ third is fourth.
-    bind_then (option_and_then (behind_line (codes "policy-version: 2")) (behind_line (codes "---") document)) (behind_line (codes "---")) third is (λ second is here.
-    bind_then (behind_line (codes "---") document) (behind_line (codes "policy-version: 2")) second is (λ first is there.
-    behind_is (codes "---") document first is
+opening_is : (ls rest : Lines) → behind_opening ls ≡ Some rest → ls ≡ opening_lines ++ rest
+opening_is ls rest is =
+    bind_then (option_and_then (behind_line (codes "---")) (option_and_then (behind_line (codes "policy-version: 2")) (behind_line (codes "---") ls))) (behind_line (codes "```policy")) rest is (λ third is fourth.
+    bind_then (option_and_then (behind_line (codes "policy-version: 2")) (behind_line (codes "---") ls)) (behind_line (codes "---")) third is (λ second is here.
+    bind_then (behind_line (codes "---") ls) (behind_line (codes "policy-version: 2")) second is (λ first is there.
+    behind_is (codes "---") ls first is
     ∙ ap (λ r. codes "---" ∷ r) (behind_is (codes "policy-version: 2") first second there
     ∙ ap (λ r. codes "policy-version: 2" ∷ r) (behind_is (codes "---") second third here
     ∙ ap (λ r. codes "---" ∷ r) (behind_is (codes "```policy") third rest fourth))))))
 
-record OpeningBehind (document : List ℕ) (others : List (List ℕ)) : Type 0 where
-  rest : List ℕ
-  found : behind_opening document ≡ Some rest
-  left : lines rest ≡ others
+opening_behind : (others : Lines) → behind_opening (opening_lines ++ others) ≡ Some others
+opening_behind others = refl
 
-opening_behind : (document : List ℕ) (others : List (List ℕ)) → lines document ≡ opening_lines ++ others → OpeningBehind document others
-opening_behind document others is =
-    let first : LineBehind (codes "---") document (codes "policy-version: 2" ∷ codes "---" ∷ codes "```policy" ∷ others) = line_behind _ _ _ is in
-    let second : LineBehind (codes "policy-version: 2") first.rest (codes "---" ∷ codes "```policy" ∷ others) = line_behind _ _ _ first.left in
-    let third : LineBehind (codes "---") second.rest (codes "```policy" ∷ others) = line_behind _ _ _ second.left in
-    let fourth : LineBehind (codes "```policy") third.rest others = line_behind _ _ _ third.left in
-    record {
-      rest = fourth.rest;
-      found =
-          ap (λ o. option_and_then (behind_line (codes "```policy")) (option_and_then (behind_line (codes "---")) (option_and_then (behind_line (codes "policy-version: 2")) o))) first.found
-          ∙ ap (λ o. option_and_then (behind_line (codes "```policy")) (option_and_then (behind_line (codes "---")) o)) second.found
-          ∙ ap (λ o. option_and_then (behind_line (codes "```policy")) o) third.found
-          ∙ fourth.found;
-      left = fourth.left;
-    }
+-- the lines before the closing one
+closing_is : (ls body : Lines) → without_closing ls ≡ Some body → ls ≡ body ++ closing_line ∷ []
+unfolding without_closing
+closing_is [] body is = absurd (cc)
+closing_is (line ∷ []) body is = if_then (bytes_eq line closing_line) (Some []) None body is (λ here there.
+    ap (λ l. l ∷ []) ((bytes_eq-Decides line closing_line).0 here) ∙ ap (λ b. b ++ closing_line ∷ []) (same_some [] body there))
+closing_is (line ∷ next ∷ more) body is = map_then (without_closing (next ∷ more)) _ body is (λ rest others same.
+    ap (λ r. line ∷ r) (closing_is (next ∷ more) rest others) ∙ ap (λ b. b ++ closing_line ∷ []) same)
 
--- the body up to the closing line
-record IsBody (ls : List (List ℕ)) (ts : Tokens) : Type 0 where
-  body : List (List ℕ)
-  framed : ls ≡ body ++ closing_line ∷ []
-  spelled : lines_tokens body ≡ Some ts
-
-body_is : (ls : List (List ℕ)) (ts : Tokens) → closed_body ls ≡ Some ts → IsBody ls ts
-unfolding closed_body
-body_is [] ts is = absurd (cc)
-body_is (line ∷ []) ts is = if_then (bytes_eq line closing_line) (Some []) None ts is (λ here there. record {
-  body = [];
-  framed = ap (λ l. l ∷ []) ((bytes_eq-Decides line closing_line).0 here);
-  spelled = there;
-})
-body_is (line ∷ next ∷ more) ts is = bind_then (line_tokens line) _ ts is (λ front here there. map_then (closed_body (next ∷ more)) _ ts there (λ rest others same.
-    let found = body_is (next ∷ more) rest others in
-    record {
-      body = line ∷ found.body;
-      framed = ap (λ r. line ∷ r) found.framed;
-      spelled = rw (here, found.spelled) (ap Some same);
-    }))
-
-more_than_none : (body : List (List ℕ)) → 0 < length (body ++ closing_line ∷ [])
+more_than_none : (body : Lines) → 0 < length (body ++ closing_line ∷ [])
 more_than_none [] = omega arith
 more_than_none (line ∷ body) = omega arith
 
-closed_is : (body : List (List ℕ)) → closed_body (body ++ closing_line ∷ []) ≡ lines_tokens body
-unfolding closed_body
-closed_is [] = refl
-closed_is (line ∷ body) = closed_more line (body ++ closing_line ∷ []) (more_than_none body)
-    ∙ ap (λ r. option_and_then (λ front. option_map (λ more. front ++ more) r) (line_tokens line)) (closed_is body)
+closing_behind : (body : Lines) → without_closing (body ++ closing_line ∷ []) ≡ Some body
+unfolding without_closing
+closing_behind [] = refl
+closing_behind (line ∷ body) = rw (one_line_more line (body ++ closing_line ∷ []) (more_than_none body), closing_behind body) refl
 
 -- what is read is a small policy
 sound_is : (document : List ℕ) (xs : List Item) (policy : SmallPolicy) → sound_policy xs ≡ Some policy → (IsTrue (is_sound xs) → IsSmall document (record { items = xs })) → IsSmall document policy
@@ -122,23 +64,24 @@ sound_is document xs policy is small = if_then (is_sound xs) (Some (record { ite
 
 read_is_small : (document : List ℕ) (policy : SmallPolicy) → read_document document ≡ Some policy → IsSmall document policy
 read_is_small document policy is =
-    bind_then (option_and_then read_items (option_and_then (λ rest. closed_body (lines rest)) (behind_opening document))) sound_policy policy is (λ xs is sound.
-    bind_then (option_and_then (λ rest. closed_body (lines rest)) (behind_opening document)) read_items xs is (λ ts is reads.
-    bind_then (behind_opening document) (λ rest. closed_body (lines rest)) ts is (λ rest opens closes.
-    let found = body_is (lines rest) ts closes in
+    bind_then (option_and_then read_items (option_and_then closed_body (behind_opening (lines document)))) sound_policy policy is (λ xs is sound.
+    bind_then (option_and_then closed_body (behind_opening (lines document))) read_items xs is (λ ts is reads.
+    bind_then (behind_opening (lines document)) closed_body ts is (λ rest opens closes.
+    bind_then (without_closing rest) lines_tokens ts closes (λ body ends spelled.
     sound_is document xs policy sound (λ true_sound. record {
-      body = found.body;
-      framed = opening_is document rest opens ∙ ap (λ r. opening_lines ++ r) found.framed;
-      spelled = found.spelled ∙ ap Some (read_is_spelled ts xs reads);
+      body = body;
+      framed = opening_is (lines document) rest opens ∙ ap (λ r. opening_lines ++ r) (closing_is rest body ends);
+      spelled = spelled ∙ ap Some (read_is_spelled ts xs reads);
       sound = true_sound;
-    }))))
+    })))))
 
 -- a small policy is read
 pub small_is_read : (document : List ℕ) (policy : SmallPolicy) → IsSmall document policy → read_document document ≡ Some policy
 small_is_read document policy small =
-    let opened = opening_behind document (small.body ++ closing_line ∷ []) small.framed in
-    let closes : closed_body (lines opened.rest) ≡ Some (spelling policy.items) = ap closed_body opened.left ∙ closed_is small.body ∙ small.spelled in
-    rw (opened.found, closes, spelled_is_read (spelling policy.items) policy.items refl, small.sound) refl
+    let opens : behind_opening (lines document) ≡ Some (small.body ++ closing_line ∷ []) = ap behind_opening small.framed ∙ opening_behind (small.body ++ closing_line ∷ []) in
+    let closes : closed_body (small.body ++ closing_line ∷ []) ≡ Some (spelling policy.items) =
+    ap (option_and_then lines_tokens) (closing_behind small.body) ∙ small.spelled in
+    rw (opens, closes, spelled_is_read (spelling policy.items) policy.items refl, small.sound) refl
 
 reading_by : (document : List ℕ) (o : Option SmallPolicy) → o ≡ read_document document → IsReading document o
 reading_by document None is = λ policy small. let some : None ≡ Some policy = is ∙ small_is_read document policy small in absurd (cc)

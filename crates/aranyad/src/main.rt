@@ -49,3 +49,6 @@ fn main(rt: HostRuntime) -> ExitCode {
     let status = run_on_host(rt).unwrap_or(Status::NoMemory);
     ExitCode::from(status.number())
 }
+
+#[cfg(test)]
+mod tests;

@@ -12,7 +12,3 @@ all_seen found = option_map seen found
 abbrev pub front : {A : Type 0} → List A → Option (A × List A)
 front [] = None
 front (x ∷ xs) = Some (x, xs)
-
--- the same, where what was read is a part of what was there
-abbrev pub both_seen : {A B : Type 0} → Option (Bor A × Bor B) → Option (A × B)
-both_seen found = option_map (λ p. (p.0.now, p.1.now)) found

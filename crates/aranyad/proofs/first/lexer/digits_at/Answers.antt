@@ -1,7 +1,6 @@
-use Rattle.std.proofs.Common.{◌≡◌, ◌^◌, ◌<◌, ◌*◌, ◌+◌, ◌-◌, ℕ, true, sym, ◌∙◌, arith}
+use Rattle.std.proofs.Common.{◌≡◌, ◌*◌, ◌+◌, ◌-◌, true, sym, ◌∙◌, arith}
 use Rattle.std.specs.Char.{is_ascii_digit}
 use Rattle.std.specs.List.{take_while}
-use Rattle.std.specs.Str.Parse.{digits_value}
 use Rattle.aranyad.proofs.Lexing.{digits_more, digits_left, digits_grow, too_large}
 use Rattle.aranyad.proofs.first.lexer.digits_at.Goals as goal
 

@@ -1,6 +1,6 @@
-use Rattle.std.proofs.Common.{◌+◌, ◌-◌, ◌∙◌, true, false, length, map, refl, arith, append-nil}
-use Rattle.aranyad.specs.declared.first.forms.TheConstants.{CLOSED, LET}
-use Rattle.aranyad.specs.first.Reading.{read_bind, read_check, read_field}
+use Rattle.std.proofs.Common.{◌+◌, ◌-◌, ◌∙◌, false, length, map, arith, append-nil}
+use Rattle.aranyad.specs.declared.first.forms.TheConstants.{CLOSED}
+use Rattle.aranyad.specs.first.Reading.{read_bind}
 use Rattle.aranyad.proofs.Parting.{parts_closed, parts_missing, parts_more, parts_spent, parts_unparted, with_part}
 use Rattle.aranyad.proofs.first.reader.binds.Goals as goal
 

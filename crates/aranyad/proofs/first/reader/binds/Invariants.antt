@@ -1,6 +1,6 @@
 use Rattle.std.proofs.Common.{◌≡◌, ◌++◌, ◌-◌, true, false, length, map, option_map}
-use Rattle.aranyad.specs.declared.first.forms.TheConstants.{CLOSED, LET}
-use Rattle.aranyad.specs.first.Reading.{parts, read_bind, read_check, read_field}
+use Rattle.aranyad.specs.declared.first.forms.TheConstants.{CLOSED}
+use Rattle.aranyad.specs.first.Reading.{parts, read_bind}
 use Rattle.aranyad.proofs.first.reader.binds.Given as goal
 
 abbrev pub invariant-loop : goal.invariant-loop

@@ -1,6 +1,6 @@
-use Rattle.std.proofs.Common.{◌≡◌, ◌++◌, ◌-◌, true, false, length, map, option_map}
-use Rattle.aranyad.specs.declared.first.forms.TheConstants.{CLOSED, LET}
-use Rattle.aranyad.specs.first.Reading.{parts, read_bind, read_check, read_field}
+use Rattle.std.proofs.Common.{◌≡◌, ◌++◌, ◌-◌, true, length, map, option_map}
+use Rattle.aranyad.specs.declared.first.forms.TheConstants.{LET}
+use Rattle.aranyad.specs.first.Reading.{parts, read_check}
 use Rattle.aranyad.proofs.first.reader.checks.Given as goal
 
 abbrev pub invariant-loop : goal.invariant-loop

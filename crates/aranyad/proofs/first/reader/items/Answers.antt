@@ -1,4 +1,4 @@
-use Rattle.std.proofs.Common.{◌-◌, ◌∙◌, arith, append-nil}
+use Rattle.std.proofs.Common.{◌∙◌, arith, append-nil}
 use Rattle.aranyad.proofs.Parting.{items_end, items_missing, items_more, items_spent, with_item}
 use Rattle.aranyad.proofs.first.reader.items.Goals as goal
 

@@ -1,6 +1,5 @@
-use Rattle.std.proofs.Common.{◌≡◌, ◌<◌, ◌∙◌, List, ℕ, None, Some, cond, ap, sym, length, map, take, get_or, refl, arith, option_map}
+use Rattle.std.proofs.Common.{◌≡◌, ◌∙◌, None, Some, cond, ap, take, get_or, option_map}
 use Rattle.std.specs.Str.{bytes_eq}
-use Rattle.aranyad.specs.first.Indexing.{kept}
 use Rattle.aranyad.specs.first.Sound.{item_named, name_of}
 use Rattle.aranyad.proofs.Indexing.{distinct_more, kept_after, named_more, none_named, repeated, some_among}
 use Rattle.aranyad.proofs.first.index.Index.new.Goals as goal
@@ -11,7 +10,7 @@ returns-then-is_some-clause-distinct c =
     let before = ap (λ o. option_map (λ r. r.now) o) c.in_ok-insert.ensures.old ∙ c.loop-item.invariant.agrees name in
     let among = some_among (take c.loop-item.item-index c.args.items.now) name c.in_ok-insert.field-0 c.if-is_some.ensures before in
     repeated c.args.items.now c.loop-item.item-index c.item-item.result c.loop-item-test.true
-      (rw (← c.item-item.is, ← c.name_of.ensures) among)
+    (rw (← c.item-item.is, ← c.name_of.ensures) among)
 
 pub loop-item-preserved : goal.loop-item-preserved
 loop-item-preserved c =
@@ -24,7 +23,7 @@ loop-item-preserved c =
     record {
       distinct = distinct_more items i c.item-item.result c.loop-item-test.true is_new c.loop-item.invariant.distinct;
       agrees = λ q.
-        kept_after name c.loop-item.named c.insert.new.self _ c.in_ok-insert.ensures.updates q
-        ∙ ap (λ o. cond (bytes_eq name q) (Some c.item-item.result) o) (c.loop-item.invariant.agrees q)
-        ∙ (rw (← c.item-item.is, ← c.name_of.ensures) at (named_more items i c.item-item.result q c.loop-item-test.true is_new))
+          kept_after name c.loop-item.named c.insert.new.self _ c.in_ok-insert.ensures.updates q
+          ∙ ap (λ o. cond (bytes_eq name q) (Some c.item-item.result) o) (c.loop-item.invariant.agrees q)
+          ∙ (rw (← c.item-item.is, ← c.name_of.ensures) at (named_more items i c.item-item.result q c.loop-item-test.true is_new));
     }
