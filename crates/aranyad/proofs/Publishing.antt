@@ -1,9 +1,8 @@
 -- What a publish leaves: the answer that is defined, and rows that are those of the run of all commands.
-use Rattle.std.proofs.Common.{◌≡◌, ℕ, suc, ℤ, Bool, true, false, List, [], ◌∷◌, ◌++◌, length, Option, Some, None, refl, sym, ap, ◌∙◌, arith}
-use Rattle.std.specs.Prelude.{IfSome}
+use Rattle.std.proofs.Common.{◌≡◌, ℕ, suc, ℤ, Bool, true, false, List, [], ◌∷◌, ◌++◌, length, Option, Some, refl, sym, ap, ◌∙◌, arith}
 use Rattle.command.specs.declared.command.Command.{Command}
 use Rattle.command.specs.declared.command.Command.TheVariants as command
-use Rattle.command.specs.Wire.{IsInForm, AreContent, command_id, init_body, basic_body}
+use Rattle.command.specs.Wire.{IsInForm, AreContent, command_id}
 use Rattle.aranyad.specs.declared.first.facts.Row.{Row}
 use Rattle.aranyad.specs.declared.first.policy.Item.{Item}
 use Rattle.aranyad.specs.declared.first.policy.Item.TheVariants as item
@@ -12,7 +11,7 @@ use Rattle.aranyad.specs.declared.first.policy.Bind.{Bind}
 use Rattle.aranyad.specs.declared.first.policy.Start.{Start}
 use Rattle.aranyad.specs.declared.first.verdict.Verdict.{Verdict}
 use Rattle.aranyad.specs.declared.first.verdict.Verdict.TheVariants as verdict
-use Rattle.aranyad.specs.first.Acting.{Tagging, maker, start_command, command_on, is_held, published}
+use Rattle.aranyad.specs.first.Acting.{Tagging, is_held, published}
 use Rattle.aranyad.specs.first.Making.{Keeps, IsTagged}
 use Rattle.aranyad.specs.first.Meaning as meaning
 use Rattle.aranyad.specs.first.Meaning.{ran, constructed, value_of, part_of}
@@ -47,19 +46,6 @@ keeps_published items commands c name (verdict.Pass rows) false is form after = 
 keeps_published items commands c name verdict.Check false is form after = rw is tt
 keeps_published items commands c name verdict.Exists false is form after = rw is tt
 
--- a tagged command is the one that is defined, where the envelope tells its tags
-pub start_is_made : (told : Option Tagging) (digest author name : List ℕ) (c : Command) →
-    IsTagged told author (init_body digest author name []) (command.Init digest author name []) c →
-    IfSome told (λ tagged. c ≡ start_command (maker tagged digest author) name)
-start_is_made None digest author name c t = tt
-start_is_made (Some tagged) digest author name c t = t.is ∙ ap (command.Init digest author name []) t.as_told
-
-pub basic_is_made : (told : Option Tagging) (digest parent author name payload : List ℕ) (c : Command) →
-    IsTagged told author (basic_body 0 parent author name payload) (command.Basic 0 parent author name payload) c →
-    IfSome told (λ tagged. c ≡ command_on (maker tagged digest author) parent name payload)
-basic_is_made None digest parent author name payload c t = tt
-basic_is_made (Some tagged) digest parent author name payload c t = t.is ∙ ap (command.Basic 0 parent author name payload) t.as_told
-
 -- there are as many values as fields
 pub length-constructed : (fields : List Name) (binds : List Bind) (names : List Name) (values : List ℤ) → length (constructed fields binds names values) ≡ length fields
 length-constructed [] binds names values = refl
@@ -74,19 +60,19 @@ are_content items b payload values sound is many = record {
 }
 
 -- the command that begins a graph, published
-pub start_published : (items : List Item) (commands : List Command) (s : Start) (rows copied : List Row) (told : Option Tagging) (digest author body : List ℕ) (c : Command) →
+pub start_published : (items : List Item) (commands : List Command) (s : Start) (rows copied : List Row) (good : List ℕ → List ℕ → List ℕ → Bool) (told : Option Tagging) (digest author body : List ℕ) (c : Command) →
     item_named items s.name ≡ Some (item.Start s) → rows ≡ (ran items commands).rows → copied ≡ rows → IsInForm c →
-    IsTagged told author body (command.Init digest author s.name []) c → Keeps items commands (published commands c s.name (verdict.Pass copied))
-start_published items commands s rows copied told digest author body c named run same form t =
+    IsTagged good told author body (command.Init digest author s.name []) c → Keeps items commands (published commands c s.name (verdict.Pass copied))
+start_published items commands s rows copied good told digest author body c named run same form t =
     keeps_published items commands c s.name (verdict.Pass copied) (is_held commands (command_id c)) refl form (λ (passed : List Row) e.
     ap (λ k. (ran items (commands ++ k ∷ [])).rows) t.is ∙ start_keeps items commands s digest author t.tag named ∙ sym run ∙ sym same ∙ same_rows copied passed e)
 
 -- an ordinary command, published
-pub basic_published : (items : List Item) (commands : List Command) (b : Basic) (rows : List Row) (values : List ℤ) (told : Option Tagging) (parent author payload body : List ℕ) (c : Command) (end : Verdict) →
+pub basic_published : (items : List Item) (commands : List Command) (b : Basic) (rows : List Row) (values : List ℤ) (good : List ℕ → List ℕ → List ℕ → Bool) (told : Option Tagging) (parent author payload body : List ℕ) (c : Command) (end : Verdict) →
     item_named items b.name ≡ Some (item.Basic b) → rows ≡ (ran items commands).rows → fields_of (length values) payload ≡ Some values →
     length values ≡ length b.fields → IsInForm c → end ≡ meaning.verdict b author values rows →
-    IsTagged told author body (command.Basic 0 parent author b.name payload) c → Keeps items commands (published commands c b.name end)
-basic_published items commands b rows values told parent author payload body c end named run read many form is t =
+    IsTagged good told author body (command.Basic 0 parent author b.name payload) c → Keeps items commands (published commands c b.name end)
+basic_published items commands b rows values good told parent author payload body c end named run read many form is t =
     keeps_published items commands c b.name end (is_held commands (command_id c)) refl form (λ (passed : List Row) e.
     ap (λ k. (ran items (commands ++ k ∷ [])).rows) t.is
     ∙ basic_keeps items commands b parent author payload t.tag values passed named (ap (λ n. fields_of n payload) (sym many) ∙ read)

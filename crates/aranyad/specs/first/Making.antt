@@ -1,5 +1,5 @@
 -- What contracts say of an action's answer beside the answer itself.
-use Rattle.std.specs.Prelude.{◌≡◌, ℕ, ◌≤◌, List, [], ◌∷◌, ◌++◌, Option, IfSome, Result, Err}
+use Rattle.std.specs.Prelude.{◌≡◌, ℕ, ◌≤◌, Bool, IsTrue, List, [], ◌∷◌, ◌++◌, Option, IfSome, Result, Err}
 use Rattle.std.specs.List.{AllByRecursion}
 use Rattle.outside.specs.Causes.{Rose}
 use Rattle.command.specs.declared.command.Command.{Command}
@@ -18,10 +18,11 @@ use Rattle.aranyad.specs.first.Running.{Step}
 abbrev pub IsMade : {A : Type 0} → Option Tagging → (Tagging → A) → A → Type 0
 IsMade told made value = IfSome told (λ tagged. value ≡ made tagged)
 
--- a command with a tag of its body; where the envelope tells its tags, it is the tag that is told
-pub record IsTagged (told : Option Tagging) (author body : List ℕ) (with_tag : List ℕ → Command) (c : Command) : Type 0 where
+-- a command with a good tag of its body; where the envelope tells its tags, it is the tag that is told
+pub record IsTagged (good : List ℕ → List ℕ → List ℕ → Bool) (told : Option Tagging) (author body : List ℕ) (with_tag : List ℕ → Command) (c : Command) : Type 0 where
   pub tag : List ℕ
   pub is : c ≡ with_tag tag
+  pub good_tag : IsTrue (good author body tag)
   pub as_told : IfSome told (λ tagged. tag ≡ tagged author body)
 
 -- the envelope's count before and after: it doesn't fall, and where a seal was the reason to stop it rose

@@ -26,7 +26,7 @@ pub fn start_command<E: Envelope>(
     env: &mut E,
 ) -> Result<Command, Stop>
     requires { IsTrue (is_word name.now) }
-    ensures tagged { IfOk result (IsTagged E.tag_of maker.now.author (form.init_body maker.now.digest maker.now.author name.now []) (command.Init maker.now.digest maker.now.author name.now [])) }
+    ensures tagged { IfOk result (IsTagged E.good E.tag_of maker.now.author (form.init_body maker.now.digest maker.now.author name.now []) (command.Init maker.now.digest maker.now.author name.now [])) }
     ensures form { IfOk result IsInForm }
     ensures cause { SealHasCause (E.faults env.old) (E.faults env.new) result }
 {
@@ -55,7 +55,7 @@ pub fn basic_command<E: Envelope>(
     env: &mut E,
 ) -> Result<Command, Stop>
     requires { AreContent name.now payload }
-    ensures tagged { IfOk result (IsTagged E.tag_of maker.now.author (form.basic_body 0 parent maker.now.author name.now payload) (command.Basic 0 parent maker.now.author name.now payload)) }
+    ensures tagged { IfOk result (IsTagged E.good E.tag_of maker.now.author (form.basic_body 0 parent maker.now.author name.now payload) (command.Basic 0 parent maker.now.author name.now payload)) }
     ensures form { IfOk result IsInForm }
     ensures cause { SealHasCause (E.faults env.old) (E.faults env.new) result }
 {

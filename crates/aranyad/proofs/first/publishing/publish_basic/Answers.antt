@@ -13,5 +13,5 @@ basic_command-requires g c =
 pub returns-clause-keeps : goal.returns-clause-keeps
 returns-clause-keeps g c =
     rw c.in_ok-published.ensures
-    (basic_published c.args.items.now c.args.commands.now c.args.basic.now c.args.rows.now c.args.values.now _ _ _ _ _ _ _
+    (basic_published c.args.items.now c.args.commands.now c.args.basic.now c.args.rows.now c.args.values.now _ _ _ _ _ _ _ _
     c.requires.named c.requires.stands.run c.in_ok-payload.ensures.read c.requires.many c.in_ok-command.ensures.form c.in_ok-end.ensures c.in_ok-command.ensures.tagged)

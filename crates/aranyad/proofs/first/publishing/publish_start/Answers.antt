@@ -11,5 +11,5 @@ start_command-requires g c =
 pub returns-clause-keeps : goal.returns-clause-keeps
 returns-clause-keeps g c =
     rw c.in_ok-published.ensures
-    (start_published c.args.items.now c.args.commands.now c.args.start.now c.args.rows.now _ _ _ _ _ _
+    (start_published c.args.items.now c.args.commands.now c.args.start.now c.args.rows.now _ _ _ _ _ _ _
     c.requires.named c.requires.stands.run c.in_ok-rows.ensures c.in_ok-command.ensures.form c.in_ok-command.ensures.tagged)
