@@ -1,4 +1,4 @@
-ghost use Rattle.std.specs.Prelude.{◌≡◌, ◌≢◌, Some, Err, IfSome, vec_len};
+ghost use Rattle.std.specs.Prelude.{◌≡◌, ◌≢◌, ◌⊎◌, Some, Err, IfSome, vec_len};
 ghost use Rattle.outside.specs.Causes.{Rose};
 ghost use Rattle.aranyad.specs.Ending.{HaltsWithCause, counts};
 ghost use Rattle.aranyad.specs.Modes.{NamesOne, mode_of};
@@ -72,6 +72,12 @@ pub fn run_command<F: Files, D: Disk, E: Envelope, K: Sink>(
     ensures run { IfSome (F.holds files.old) (λ at. IfSome E.tag_of (λ tagged. (outcome : Outcome) → Runs tagged at words.now outcome →
         Follows result outcome (K.written out.old) (K.written out.new))) }
     ensures disks { disks.new.items ≡ disks.old.items }
+    // Where no device failed, the outcome's end is reached, or memory is wanting.
+    ensures complete {
+        ¬ Rose (F.faults files.old) (F.faults files.new) → ¬ Rose (E.faults env.old) (E.faults env.new) → ¬ Rose (K.faults out.old) (K.faults out.new) →
+            IfSome (F.holds files.old) (λ at. IfSome E.tag_of (λ tagged. (outcome : Outcome) → Runs tagged at words.now outcome →
+                (result ≡ outcome.status) ⊎ (result ≡ Status.NoMemory)))
+    }
     ensures read { result ≡ Status.ReadFault → Rose (F.faults files.old) (F.faults files.new) }
     ensures name { result ≡ Status.ReadFault → NamesOne (mode_of words.now) (F.last files.new) }
     ensures write { result ≡ Status.WriteFault → Rose (K.faults out.old) (K.faults out.new) }
