@@ -62,6 +62,7 @@ pub record WriteHalts {T : Type 0} (old new : ℕ) (result : Result T Halt) : Ty
   pub write : result ≡ Err halt.Write → Rose old new
   pub no_read : result ≢ Err halt.Read
   pub no_seal : result ≢ Err halt.Seal
+  pub no_memory : result ≢ Err halt.Memory
 
 -- the same of lines that are run: the envelope and the sink alone may halt them
 pub record LinesHalt {T : Type 0} (seals_old seals_new writes_old writes_new : ℕ) (result : Result T Halt) : Type 0 where

@@ -1,8 +1,9 @@
-ghost use Rattle.std.specs.Prelude.{◌≡◌, ◌<◌, ◌^◌, [], ◌∷◌, ◌++◌, Some, IsTrue, IfOk, IfSome, codes};
+ghost use Rattle.std.specs.Prelude.{◌≡◌, ◌≢◌, Ok, ◌<◌, ◌^◌, [], ◌∷◌, ◌++◌, Some, IsTrue, IfOk, IfSome, codes};
 ghost use Rattle.std.specs.List.{concat};
 ghost use Rattle.std.specs.Fmt.{decimal};
 ghost use Rattle.aranyad.specs.Ending.{HaltsWithCause, LinesHalt, NamesFile, ReadHalts, WriteHalts, counts, ending_status};
 ghost use Rattle.aranyad.specs.Outcome.{RunsTo, limited, refused, script_limit, script_outcome};
+ghost use Rattle.aranyad.specs.declared.ending.Ending.TheVariants as ending;
 ghost use Rattle.aranyad.specs.declared.status.Status.TheVariants as status;
 ghost use Rattle.aranyad.specs.Written.{Writes};
 ghost use Rattle.aranyad.specs.first.Running.{texts};
@@ -48,6 +49,7 @@ pub fn read_limited<F: Files>(
 /// Writes the line of a refusal, its line feed with it, and answers the ending.
 pub fn refuse<K: Sink>(out: &mut K, ending: Ending, line: &[u8]) -> Result<Ending, Halt>
     ensures run { RunsTo result (record { status = ending_status ending; pieces = line.now ∷ [] }) (K.written out.old) (K.written out.new) }
+    ensures ending { IfOk result (λ end. end ≡ ending) }
     ensures cause { WriteHalts (K.faults out.old) (K.faults out.new) result }
 {
     match write_all(out, line) {
@@ -103,6 +105,7 @@ pub fn run_bytes<E: Envelope, K: Sink>(
 ) -> Result<Ending, Halt>
     requires { IsTrue (is_sound policy.now.items) }
     ensures run { IfSome E.tag_of (λ tagged. RunsTo result (script_outcome tagged digest.now policy.now (Some script)) (K.written out.old) (K.written out.new)) }
+    ensures no_usage { result ≢ Ok ending.Usage }
     ensures cause { LinesHalt (E.faults env.old) (E.faults env.new) (K.faults out.old) (K.faults out.new) result }
 {
     let script = match script {

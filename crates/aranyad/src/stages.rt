@@ -1,6 +1,7 @@
-ghost use Rattle.std.specs.Prelude.{◌≡◌, ◌⊎◌, Option, Some, Err, IsTrue, IfSome};
+ghost use Rattle.std.specs.Prelude.{◌≡◌, ◌≢◌, Ok, ◌⊎◌, Option, Some, Err, IsTrue, IfSome};
 ghost use Rattle.aranyad.specs.Ending.{HaltsWithCause, NamesFile, counts};
 ghost use Rattle.aranyad.specs.Outcome.{Outcome, RunsFiles, RunsTo, limited, policy_limit, reading_outcome, script_limit, script_outcome};
+ghost use Rattle.aranyad.specs.declared.ending.Ending.TheVariants as ending;
 ghost use Rattle.aranyad.specs.declared.ending.Halt.TheVariants as halt;
 ghost use Rattle.aranyad.specs.declared.first.policy.SmallPolicy.{SmallPolicy};
 ghost use Rattle.aranyad.specs.first.Document.{IsReading};
@@ -33,6 +34,7 @@ fn run_script<F: Files, E: Envelope, K: Sink>(
     requires { IsTrue (is_sound policy.now.items) }
     ensures run { IfSome (F.holds files.old) (λ at. IfSome E.tag_of (λ tagged.
         RunsTo result (script_outcome tagged digest.now policy.now (limited script_limit (at script))) (K.written out.old) (K.written out.new))) }
+    ensures no_usage { result ≢ Ok ending.Usage }
     ensures cause { HaltsWithCause (counts (F.faults files.old) (E.faults env.old) (K.faults out.old)) (counts (F.faults files.new) (E.faults env.new) (K.faults out.new)) result }
     ensures name { NamesFile script (F.last files.new) result }
 {
@@ -53,6 +55,7 @@ fn run_document<F: Files, E: Envelope, K: Sink>(
 ) -> Result<Ending, Halt>
     ensures run { IfSome (F.holds files.old) (λ at. IfSome E.tag_of (λ tagged. (found : Option SmallPolicy) → IsReading document.now found →
         RunsTo result (reading_outcome tagged document.now (limited script_limit (at script)) found) (K.written out.old) (K.written out.new))) }
+    ensures no_usage { result ≢ Ok ending.Usage }
     ensures cause { HaltsWithCause (counts (F.faults files.old) (E.faults env.old) (K.faults out.old)) (counts (F.faults files.new) (E.faults env.new) (K.faults out.new)) result }
     ensures name { NamesFile script (F.last files.new) result }
 {
@@ -75,6 +78,7 @@ pub fn run_files<F: Files, E: Envelope, K: Sink>(
     ensures run { IfSome (F.holds files.old) (λ at. IfSome E.tag_of (λ tagged. (outcome : Outcome) →
         RunsFiles tagged (limited policy_limit (at policy)) (limited script_limit (at script)) outcome →
         RunsTo result outcome (K.written out.old) (K.written out.new))) }
+    ensures no_usage { result ≢ Ok ending.Usage }
     ensures cause { HaltsWithCause (counts (F.faults files.old) (E.faults env.old) (K.faults out.old)) (counts (F.faults files.new) (E.faults env.new) (K.faults out.new)) result }
     ensures name { result ≡ Err halt.Read → (F.last files.new ≡ Some policy) ⊎ (F.last files.new ≡ Some script) }
 {

@@ -1,5 +1,7 @@
 use Rattle.std.proofs.Common.{Err, ap}
+use Rattle.aranyad.specs.declared.ending.Ending.TheVariants as ending
 use Rattle.aranyad.specs.declared.ending.Halt.TheVariants as halt
+use Rattle.aranyad.proofs.Following.{refused_ends}
 use Rattle.aranyad.specs.Modes.{mode_of}
 use Rattle.aranyad.proofs.Readings.{usage_runs}
 use Rattle.aranyad.proofs.Runs.{told_both, halted_at_once}
@@ -14,3 +16,9 @@ returns-in-Usage-clause-run g c =
 pub returns-in-NoMemory-clause-run : goal.returns-in-NoMemory-clause-run
 returns-in-NoMemory-clause-run g c =
     told_both (g.F.Files.holds c.args.files.now) g.E.Envelope.tag_of _ (λ at tagged outcome runs. halted_at_once outcome halt.Memory (g.K.Sink.written c.args.out.now))
+
+pub returns-in-Usage-clause-no_mode : goal.returns-in-Usage-clause-no_mode
+returns-in-Usage-clause-no_mode g c = λ none. refused_ends c.refuse.result ending.Usage _ _ c.refuse.ensures.ending c.refuse.ensures.cause
+
+pub returns-in-NoMemory-clause-no_mode : goal.returns-in-NoMemory-clause-no_mode
+returns-in-NoMemory-clause-no_mode g c = λ none. absurd (c.in-Err.ensures.memory (ap Err c.in-NoMemory.is) none)
