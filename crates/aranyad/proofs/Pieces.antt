@@ -34,9 +34,6 @@ front_more text rest piece behind old mid new parts so_far front = record {
       (sym (append_assoc front.so_far.part front.rest behind) ∙ ap (λ l. l ++ behind) front.so_far.whole ∙ parts) so_far front.so_far.added;
 }
 
--- an end before anything was written, and an end with nothing left
+-- an end before anything was written
 pub front_of_none : (text : List ℕ) (old : Option (List ℕ)) → WritesFront text old old
 front_of_none text old = record { rest = text; so_far = wrote_nothing text old }
-
-pub front_so_far : (text rest : List ℕ) (old new : Option (List ℕ)) → WritesBut text rest old new → WritesFront text old new
-front_so_far text rest old new so_far = record { rest = rest; so_far = so_far }
