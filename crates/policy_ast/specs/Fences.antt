@@ -1,6 +1,6 @@
 -- The blocks of a document, which fences open and close.
 use Rattle.std.specs.Prelude.{ℕ, zero, suc, ◌+◌, Bool, true, false, ◌==◌, ◌&&◌, not, if◌then◌else◌, nat_le, List, [], ◌∷◌, length, drop, codes, Result, Ok, Err}
-use Rattle.std.specs.List.{list_all, list_any, prefix_len, take_while}
+use Rattle.std.specs.List.{list_all, list_any, take_while}
 use Rattle.std.specs.Str.{byte, bytes_eq}
 use Rattle.policy_ast.specs.DocumentFault.{DocumentFault, OpenBlock}
 use Rattle.policy_ast.specs.Lines.{Line, line_number}
@@ -11,7 +11,7 @@ is_backtick c = c == byte "`"
 
 -- how many backticks stand behind the spaces in front of a text
 abbrev pub backticks : List ℕ → ℕ
-backticks text = prefix_len is_backtick (unindented text)
+backticks text = length (take_while is_backtick (unindented text))
 
 -- what stands behind these
 abbrev pub behind_backticks : List ℕ → List ℕ

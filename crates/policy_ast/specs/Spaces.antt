@@ -1,6 +1,6 @@
 -- Spaces around a text. No other character counts as one.
 use Rattle.std.specs.Prelude.{ℕ, Bool, ◌==◌, ◌&&◌, nat_eq, List, length, drop}
-use Rattle.std.specs.List.{list_all, prefix_len, starts_with}
+use Rattle.std.specs.List.{list_all, starts_with, take_while}
 use Rattle.std.specs.Str.{byte}
 
 abbrev pub is_space : ℕ → Bool
@@ -8,7 +8,7 @@ is_space c = c == byte " "
 
 -- how many spaces a text begins with
 abbrev pub indent : List ℕ → ℕ
-indent text = prefix_len is_space text
+indent text = length (take_while is_space text)
 
 -- a text without the spaces in front
 abbrev pub unindented : List ℕ → List ℕ

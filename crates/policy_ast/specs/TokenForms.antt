@@ -1,6 +1,6 @@
 -- The tokens that bytes of a policy block begin with, and what may stand between them. No two of these forms begin with the
 -- same byte, but for the two comments.
-use Rattle.std.specs.Prelude.{ℕ, ℤ, pos, neg_ℤ, ◌+◌, Bool, true, false, ◌==◌, ◌&&◌, not, nat_eq, nat_lt, if◌then◌else◌, List, [], ◌∷◌, ◌++◌, length, take, drop, codes, Option, Some, None, option_map}
+use Rattle.std.specs.Prelude.{ℕ, ℤ, pos, neg_ℤ, ◌+◌, Bool, true, false, ◌==◌, ◌&&◌, not, nat_eq, if◌then◌else◌, List, [], ◌∷◌, ◌++◌, length, take, drop, codes, Option, Some, None, option_map}
 use Rattle.std.specs.Char.{is_ascii_digit}
 use Rattle.std.specs.List.{find, position, starts_with, take_while}
 use Rattle.std.specs.Option.{option_and_then, option_or}
@@ -28,13 +28,15 @@ word_at bytes = let run = take_while is_word_byte bytes in if is_word run then S
 abbrev pub number_of : Bool → List ℕ → ℤ
 number_of is_negative digits = let size = pos (digits_value 10 digits) in if is_negative then neg_ℤ size else size
 
--- the whole run of digits with a minus sign directly before it or without, where that is a number in range
+-- the whole run of digits, behind a sign of so many bytes, where that is a number in range
+abbrev pub number_behind : Bool → ℕ → List ℕ → Option Piece
+number_behind is_negative sign bytes =
+    let digits = take_while is_ascii_digit bytes in
+    if not (length digits == 0) && fits_int (number_of is_negative digits) then Some (Number (number_of is_negative digits), sign + length digits) else None
+
+-- a minus sign stands directly before the digits or nowhere
 unfoldable pub number_at : List ℕ → Option Piece
-number_at bytes =
-    let is_negative = starts_with nat_eq bytes (codes "-") in
-    let sign = if is_negative then 1 else 0 in
-    let digits = take_while is_ascii_digit (drop sign bytes) in
-    if nat_lt 0 (length digits) && fits_int (number_of is_negative digits) then Some (Number (number_of is_negative digits), sign + length digits) else None
+number_at bytes = if starts_with nat_eq bytes (codes "-") then number_behind true 1 (drop 1 bytes) else number_behind false 0 bytes
 
 abbrev pub is_quotation_mark : ℕ → Bool
 is_quotation_mark c = c == byte "\""
