@@ -1,5 +1,5 @@
-ghost use Rattle.std.specs.Prelude.{◌≡◌, [], ◌∷◌, ◌++◌, ◌^◌, ◌<◌, ◌≤◌, IfOk, IfSome, OnOk, length};
-ghost use Rattle.policy_ast.specs.DocumentTokens.{block_tokens, joined};
+ghost use Rattle.std.specs.Prelude.{◌≡◌, [], ◌∷◌, ◌++◌, ◌^◌, ◌<◌, ◌≤◌, All, IfOk, IfSome, OnOk, length};
+ghost use Rattle.policy_ast.specs.DocumentTokens.{IsTokenOf, block_tokens, joined};
 ghost use Rattle.policy_lex.specs.Answers.{IsAnswer};
 ghost use Rattle.policy_lex.specs.BlockViews.{IsBlock, plain};
 ghost use Rattle.policy_ast.specs.TokenForms.{gap_at, token_at};
@@ -24,8 +24,10 @@ pub fn with_block_tokens(
 ) -> Result<Items<Token>, LexFault>
     requires short { length document.now < 2 ^ 32 }
     requires block { IsBlock document.now (length tokens) block }
+    requires slices { All (IsTokenOf document.now) tokens }
     ensures answer { IsAnswer (joined tokens (block_tokens document.now (plain block))) result }
     ensures few { IfOk result (λ all. length all ≤ block.to) }
+    ensures slices { IfOk result (λ all. All (IsTokenOf document.now) all) }
 {
     let mut tokens = tokens;
     let mut place = block.from;
