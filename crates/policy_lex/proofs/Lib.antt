@@ -12,4 +12,5 @@ pub mod WordRuns
 pub mod Comments
 pub mod Digits
 pub mod Slices
+pub mod TextUtf8
 pub mod Texts

@@ -1,9 +1,8 @@
 -- A token's bytes by themselves are read as that token.
-use Rattle.std.proofs.Common.{◌≡◌, ℕ, suc, ◌+◌, ◌-◌, Bool, true, false, cond, nat_eq, if◌then◌else◌, List, [], ◌∷◌, ◌++◌, length, take, refl, ap, sym, ◌∙◌, arith, codes, Option, Some, None}
+use Rattle.std.proofs.Common.{◌≡◌, ℕ, suc, ◌+◌, ◌-◌, Bool, true, false, cond, nat_eq, if◌then◌else◌, List, [], ◌∷◌, ◌++◌, length, take, refl, ap, sym, ◌∙◌, arith, codes, Option, Some, None, option_map}
 use Rattle.std.specs.Char.{is_ascii_alphabetic, is_ascii_digit}
 use Rattle.std.specs.List.{starts_with, take_while}
 use Rattle.std.specs.Option.{option_and_then}
-use Rattle.std.specs.Str.{is_utf8}
 use Rattle.std.proofs.lemmas.List.Folds.{length-prefix_len}
 use Rattle.std.proofs.lemmas.List.Sums.{take_while-cons}
 use Rattle.std.proofs.lemmas.Bool.Decides.{nat_tests}
@@ -136,20 +135,16 @@ text_alone true (c ∷ rest) text found =
 text_alone false (c ∷ rest) text found =
     plain_case (is_quotation_mark c) (is_line_feed c) c rest text refl refl found (λ inner is. text_alone (is_backslash c) rest inner is)
 
-quoted_case : (b : Bool) (text : List ℕ × ℕ) (piece : Piece) → (if b then Some (Quoted text.0, text.1 + 1) else None) ≡ Some piece → suc text.1 ≡ piece.1
-quoted_case true text piece found = let size : text.1 + 1 ≡ piece.1 = ap (λ (p : Piece). p.1) (same_some (Quoted text.0, text.1 + 1) piece found) in omega (arith, size)
-quoted_case false text piece found = absurd (none_some found)
-
-found_text : (found : Option (List ℕ × ℕ)) (rest : List ℕ) (piece : Piece) → text_from false rest ≡ found → option_and_then quoted found ≡ Some piece
-    → (suc (piece.1 - 1) ≡ piece.1) × (option_and_then quoted (text_from false (take (piece.1 - 1) rest)) ≡ Some piece)
+found_text : (found : Option (List ℕ × ℕ)) (rest : List ℕ) (piece : Piece) → text_from false rest ≡ found → option_map quoted found ≡ Some piece
+    → (suc (piece.1 - 1) ≡ piece.1) × (option_map quoted (text_from false (take (piece.1 - 1) rest)) ≡ Some piece)
 found_text None rest piece is found = absurd (none_some found)
 found_text (Some text) rest piece is found =
-    let size : suc text.1 ≡ piece.1 = quoted_case (is_utf8 text.0) text piece found in
+    let size : text.1 + 1 ≡ piece.1 = ap (λ (p : Piece). p.1) (same_some (Quoted text.0, text.1 + 1) piece found) in
     let inner : text.1 ≡ piece.1 - 1 = omega (arith, size) in
-    (omega (arith, size), ap (λ n. option_and_then quoted (text_from false (take n rest))) (sym inner) ∙ ap (option_and_then quoted) (text_alone false rest text is) ∙ found)
+    (omega (arith, size), ap (λ n. option_map quoted (text_from false (take n rest))) (sym inner) ∙ ap (option_map quoted) (text_alone false rest text is) ∙ found)
 
 quote_case : (b : Bool) (c : ℕ) (rest : List ℕ) (piece : Piece) → starts_with nat_eq (c ∷ rest) (codes "\"") ≡ b
-    → option_and_then (λ r. option_and_then quoted (text_from false r)) (if b then Some rest else None) ≡ Some piece → quoted_at (take piece.1 (c ∷ rest)) ≡ Some piece
+    → option_map quoted (option_and_then (text_from false) (if b then Some rest else None)) ≡ Some piece → quoted_at (take piece.1 (c ∷ rest)) ≡ Some piece
 unfolding quoted_at
 quote_case true c rest piece is found =
     let inner = found_text (text_from false rest) rest piece refl found in
@@ -162,7 +157,7 @@ quoted_alone [] piece found = absurd (none_some found)
 quoted_alone (c ∷ rest) piece found = quote_case (starts_with nat_eq (c ∷ rest) (codes "\"")) c rest piece refl found
 
 quote_others : (b : Bool) (c : ℕ) (rest : List ℕ) (piece : Piece) → starts_with nat_eq (c ∷ rest) (codes "\"") ≡ b
-    → option_and_then (λ r. option_and_then quoted (text_from false r)) (if b then Some rest else None) ≡ Some piece → (word_at (c ∷ rest) ≡ None) × (number_at (c ∷ rest) ≡ None)
+    → option_map quoted (option_and_then (text_from false) (if b then Some rest else None)) ≡ Some piece → (word_at (c ∷ rest) ≡ None) × (number_at (c ∷ rest) ≡ None)
 unfolding number_at
 quote_others true c rest piece is found =
     let mark : c ≡ 34 = grind (arith, nat_tests) in

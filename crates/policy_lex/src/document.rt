@@ -1,4 +1,5 @@
 ghost use Rattle.std.specs.Prelude.{◌≡◌, ◌^◌, ◌<◌, ◌≤◌, All, IfOk, length, map};
+ghost use Rattle.std.specs.Str.{IsUtf8};
 ghost use Rattle.policy_ast.specs.DocumentTokens.{IsTokenOf, blocks_tokens, document_tokens, tokens_behind, tokens_in};
 ghost use Rattle.policy_ast.specs.Fences.{blocks_from};
 ghost use Rattle.policy_ast.specs.FrontMatter.{behind_front_matter};
@@ -34,7 +35,8 @@ pub fn tokens(alloc: Global, document: &[u8]) -> Result<Items<Token>, LexFault>
 
 /// The same of a document that is UTF-8.
 fn text_tokens(alloc: Global, document: &[u8]) -> Result<Items<Token>, LexFault>
-    requires { length document.now < 2 ^ 32 }
+    requires short { length document.now < 2 ^ 32 }
+    requires utf8 { IsUtf8 document.now }
     ensures answer { IsAnswer (tokens_behind document.now (behind_front_matter document.now (document_lines document.now))) result }
     ensures few { IfOk result (λ tokens. length tokens ≤ length document.now) }
     ensures slices { IfOk result (λ tokens. All (IsTokenOf document.now) tokens) }
@@ -48,6 +50,7 @@ fn text_tokens(alloc: Global, document: &[u8]) -> Result<Items<Token>, LexFault>
 /// The tokens of the policy blocks from a place on.
 fn tokens_from(alloc: Global, document: &[u8], place: usize) -> Result<Items<Token>, LexFault>
     requires short { length document.now < 2 ^ 32 }
+    requires utf8 { IsUtf8 document.now }
     requires within { place ≤ length document.now }
     ensures answer { IsAnswer (tokens_in document.now (blocks_from document.now 0 (lines_at document.now place))) result }
     ensures few { IfOk result (λ tokens. length tokens ≤ length document.now) }
@@ -62,6 +65,7 @@ fn tokens_from(alloc: Global, document: &[u8], place: usize) -> Result<Items<Tok
 /// The tokens of blocks, one after another.
 fn blocks_tokens(alloc: Global, document: &[u8], blocks: &[Block]) -> Result<Items<Token>, LexFault>
     requires short { length document.now < 2 ^ 32 }
+    requires utf8 { IsUtf8 document.now }
     requires blocks { AreBlocks document.now 0 blocks.now (length document.now) }
     ensures answer { IsAnswer (blocks_tokens document.now (map plain blocks.now)) result }
     ensures few { IfOk result (λ tokens. length tokens ≤ length document.now) }

@@ -3,6 +3,7 @@ use Rattle.std.proofs.lemmas.List.Elements.{All-push}
 use Rattle.policy_ast.specs.DocumentFault.{BadToken}
 use Rattle.policy_ast.specs.DocumentTokens.{IsTokenOf, joined}
 use Rattle.policy_lex.proofs.LineNumbers.{number_behind}
+use Rattle.policy_lex.proofs.TextUtf8.{text_in_utf8}
 use Rattle.policy_lex.proofs.TokenSteps.{few_more, token_placed, joined_more, joined_none, tokens_bad, tokens_passed, tokens_past}
 use Rattle.policy_lex.proofs.block_tokens.with_block_tokens.Goals as goal
 use Rattle.policy_lex.proofs.block_tokens.with_block_tokens.Goals.{in-Some-token+in_ok-push_token, in_default-token}
@@ -52,3 +53,6 @@ returns-clause-answer c =
     sym c.loop-place.invariant.left
     ∙ ap (joined c.loop-place.tokens) (tokens_past c.args.document.now c.loop-place.place c.args.block.to (omega arith))
     ∙ joined_none c.loop-place.tokens
+
+pub piece_at-requires-clause-text : goal.piece_at-requires-clause-text
+piece_at-requires-clause-text c = text_in_utf8 c.args.document.now c.loop-place.place c.args.block.to c.requires.utf8 (omega (arith, c.requires.block.within))
