@@ -53,29 +53,29 @@ of_no_characters = refl
 words_numbers_and_symbols : document_tokens (in_block (codes "a=>12b -3|_"))
     ≡ Ok (token (Word (codes "a")) 36 37 ∷ token (Symbol ARROW) 37 39 ∷ token (Number (pos 12)) 39 41 ∷ token (Word (codes "b")) 41 42
     ∷ token (Number (negsuc 2)) 43 45 ∷ token (Symbol BAR) 45 46 ∷ token (Symbol UNDERSCORE) 46 47 ∷ [])
-unfolding in_block token document_tokens is_utf8 chars encode lines_of_parts blocks_from tokens_from word_at number_at quoted_at symbol_at separator_at line_comment_at block_comment_at
+unfolding in_block token document_tokens is_utf8 chars encode lines_of_parts blocks_from word_at tokens_from number_at quoted_at symbol_at separator_at line_comment_at block_comment_at
 words_numbers_and_symbols = refl
 
 a_text : document_tokens (in_block (codes "\"a\\n\\\"\""))
     ≡ Ok (token (Quoted (codes "a\n\"")) 36 43 ∷ [])
-unfolding in_block token document_tokens is_utf8 chars encode lines_of_parts blocks_from tokens_from word_at number_at quoted_at text_from symbol_at separator_at line_comment_at block_comment_at
+unfolding in_block token document_tokens is_utf8 chars encode lines_of_parts blocks_from word_at tokens_from number_at quoted_at text_from symbol_at separator_at line_comment_at block_comment_at
 a_text = refl
 
 comments : document_tokens (in_block (codes "=/* > */>// x"))
     ≡ Ok (token (Symbol EQUALS) 36 37 ∷ token (Symbol GREATER) 44 45 ∷ [])
-unfolding in_block token document_tokens is_utf8 chars encode lines_of_parts blocks_from tokens_from word_at number_at quoted_at symbol_at separator_at line_comment_at block_comment_at comment_end
+unfolding in_block token document_tokens is_utf8 chars encode lines_of_parts blocks_from word_at tokens_from number_at quoted_at symbol_at separator_at line_comment_at block_comment_at comment_end
 comments = refl
 
 a_comment_that_is_not_ended : document_tokens (in_block (codes "x /* y")) ≡ Err (BadToken 5)
-unfolding in_block document_tokens is_utf8 chars encode lines_of_parts blocks_from tokens_from word_at number_at quoted_at symbol_at separator_at line_comment_at block_comment_at comment_end
+unfolding in_block document_tokens is_utf8 chars encode lines_of_parts blocks_from word_at tokens_from number_at quoted_at symbol_at separator_at line_comment_at block_comment_at comment_end
 a_comment_that_is_not_ended = refl
 
 a_number_out_of_range : document_tokens (in_block (codes "9223372036854775808")) ≡ Err (BadToken 5)
-unfolding in_block document_tokens is_utf8 chars encode lines_of_parts blocks_from tokens_from word_at number_at quoted_at symbol_at separator_at line_comment_at block_comment_at comment_end
+unfolding in_block document_tokens is_utf8 chars encode lines_of_parts blocks_from word_at tokens_from number_at quoted_at symbol_at separator_at line_comment_at block_comment_at comment_end
 a_number_out_of_range = refl
 
 a_word_too_long : document_tokens (in_block (replicate 65 97)) ≡ Err (BadToken 5)
-unfolding in_block document_tokens is_utf8 chars encode lines_of_parts blocks_from tokens_from word_at number_at quoted_at symbol_at separator_at line_comment_at block_comment_at comment_end
+unfolding in_block document_tokens is_utf8 chars encode lines_of_parts blocks_from word_at tokens_from number_at quoted_at symbol_at separator_at line_comment_at block_comment_at comment_end
 a_word_too_long = refl
 
 a_block_left_open : document_tokens (codes "---\npolicy-version: 2\n---\n```policy\n;\n``\n") ≡ Err (OpenBlock 4)

@@ -53,7 +53,7 @@ tokens_in document (Ok blocks) = blocks_tokens document blocks
 tokens_in document (Err fault) = Err fault
 
 abbrev pub tokens_behind : List ℕ → Result (List Line) DocumentFault → Tokens
-tokens_behind document (Ok lines) = tokens_in document (blocks_from document 0 lines)
+tokens_behind document (Ok lines) = tokens_in document (blocks_from 0 document lines)
 tokens_behind document (Err fault) = Err fault
 
 -- the tokens of a document

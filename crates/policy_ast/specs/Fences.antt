@@ -48,10 +48,10 @@ with_opened document opening true (closing ∷ lines) blocks = with_block (recor
 with_opened document opening false lines blocks = blocks
 
 -- the policy blocks of lines, of which so many in front belong to a block before: these open none
-unfoldable pub blocks_from : List ℕ → ℕ → List Line → Blocks
-blocks_from document inside [] = Ok []
-blocks_from document (suc inside) (line ∷ lines) = blocks_from document inside lines
-blocks_from document zero (line ∷ lines) =
+unfoldable pub blocks_from : ℕ → List ℕ → List Line → Blocks
+blocks_from inside document [] = Ok []
+blocks_from (suc inside) document (line ∷ lines) = blocks_from inside document lines
+blocks_from zero document (line ∷ lines) =
     let body = take_while (λ l. not (is_closing (backticks line.text) l.text)) lines in
-    let behind = blocks_from document (if is_fence line.text then length body + 1 else 0) lines in
+    let behind = blocks_from (if is_fence line.text then length body + 1 else 0) document lines in
     if is_fence line.text then with_opened document line (opens_policy line.text) (drop (length body) lines) behind else behind

@@ -12,31 +12,31 @@ use Rattle.policy_lex.specs.LineViews.{lines_at}
 use Rattle.policy_lex.proofs.LineSteps.{no_lines}
 
 -- lines that belong to a block before open none
-blocks_passed : (document : List ℕ) (inside : ℕ) (lines : List Line) → blocks_from document inside lines ≡ blocks_from document 0 (drop inside lines)
+blocks_passed : (document : List ℕ) (inside : ℕ) (lines : List Line) → blocks_from inside document lines ≡ blocks_from 0 document (drop inside lines)
 unfolding blocks_from
 blocks_passed document zero lines = refl
 blocks_passed document (suc inside) [] = refl
 blocks_passed document (suc inside) (line ∷ lines) = blocks_passed document inside lines
 
-pub no_blocks : (document : List ℕ) (place : ℕ) → length document ≤ place → blocks_from document 0 (lines_at document place) ≡ Ok []
+pub no_blocks : (document : List ℕ) (place : ℕ) → length document ≤ place → blocks_from 0 document (lines_at document place) ≡ Ok []
 unfolding blocks_from
 no_blocks document place past = rw (no_lines document place past) refl
 
 -- a line that opens no block
-pub blocks_other : (document : List ℕ) (line : Line) (lines : List Line) → is_fence line.text ≡ false → blocks_from document 0 (line ∷ lines) ≡ blocks_from document 0 lines
+pub blocks_other : (document : List ℕ) (line : Line) (lines : List Line) → is_fence line.text ≡ false → blocks_from 0 document (line ∷ lines) ≡ blocks_from 0 document lines
 unfolding blocks_from
 blocks_other document line lines is = rw is refl
 
 -- a line that opens one
 pub blocks_opened : (document : List ℕ) (line : Line) (lines rest : List Line) (is_policy : Bool) → is_fence line.text ≡ true → opens_policy line.text ≡ is_policy
     → from_closing (backticks line.text) lines ≡ rest
-    → blocks_from document 0 (line ∷ lines) ≡ with_opened document line is_policy rest (blocks_from document 0 (drop 1 rest))
+    → blocks_from 0 document (line ∷ lines) ≡ with_opened document line is_policy rest (blocks_from 0 document (drop 1 rest))
 unfolding blocks_from
 blocks_opened document line lines rest is_policy is policy found =
     let count = length (take_while (λ l. not (is_closing (backticks line.text) l.text)) lines) in
     rw (is, blocks_passed document (count + 1) lines, ← drop-drop 1 count lines, found, policy) refl
 
-pub blocks_none : (document : List ℕ) → blocks_from document 0 [] ≡ Ok []
+pub blocks_none : (document : List ℕ) → blocks_from 0 document [] ≡ Ok []
 unfolding blocks_from
 blocks_none document = refl
 

@@ -1,5 +1,5 @@
 -- The front matter, line by line.
-use Rattle.std.proofs.Common.{◌≡◌, ℕ, ◌<◌, ◌≤◌, IfSome, arith, Bool, true, false, cond, not, if◌then◌else◌, List, [], ◌∷◌, length, drop, refl, ap, sym, ◌∙◌, Option, Some, None, Result, Err}
+use Rattle.std.proofs.Common.{◌≡◌, ℕ, zero, ◌<◌, ◌≤◌, IfSome, arith, Bool, true, false, cond, not, if◌then◌else◌, List, [], ◌∷◌, length, drop, refl, ap, sym, ◌∙◌, Option, Some, None, Result, Err}
 use Rattle.std.specs.List.{find, take_while}
 use Rattle.std.specs.Option.{option_and_then, option_or}
 use Rattle.std.proofs.lemmas.List.Sums.{take_while-cons}
@@ -100,16 +100,16 @@ pub read_past : (document : List ℕ) (version : Option Version) (place : ℕ) �
 unfolding read_on
 read_past document version place past = rw (no_lines document place past) refl
 
-pub read_first : (document : List ℕ) (next : ℕ) (line : Line) → lines_at document 0 ≡ line ∷ lines_at document next → is_rule line.text ≡ true
+pub read_first : (document : List ℕ) (next : ℕ) (line : Line) → document_lines document ≡ line ∷ lines_at document next → is_rule line.text ≡ true
     → read_on document None (lines_at document next) ≡ behind_front_matter document (document_lines document)
 read_first document next line is rule = read_is_behind_rule document (lines_at document next) ∙ sym (ap (behind_front_matter document) is ∙ (rw rule refl))
 
-pub first_refused : (document : List ℕ) (next : ℕ) (line : Line) → lines_at document 0 ≡ line ∷ lines_at document next → is_rule line.text ≡ false
+pub first_refused : (document : List ℕ) (next : ℕ) (line : Line) → document_lines document ≡ line ∷ lines_at document next → is_rule line.text ≡ false
     → behind_front_matter document (document_lines document) ≡ Err NoFrontMatter
 first_refused document next line is rule = ap (behind_front_matter document) is ∙ (rw rule refl)
 
 pub nothing_refused : (document : List ℕ) → length document ≡ 0 → behind_front_matter document (document_lines document) ≡ Err NoFrontMatter
-nothing_refused document empty = ap (behind_front_matter document) (no_lines document 0 (omega (arith, empty)))
+nothing_refused document empty = ap (behind_front_matter document) (no_lines document zero (omega (arith, empty)))
 
 version_given : (b : Bool) (size : ℕ) (given : Version) → given.start < size → IfSome (if b then Some given else None) (λ v. v.start < size)
 version_given true size given within = within

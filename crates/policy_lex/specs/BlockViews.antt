@@ -37,8 +37,8 @@ from_closing count lines = drop (length (take_while (λ line. not (is_closing co
 
 -- the blocks from a line on, by what begins with it
 abbrev pub blocks_of_part : List ℕ → Line → Part → Blocks
-blocks_of_part document line (part.Block from to next) = with_block (record { from = from; to = to }) (blocks_from document 0 (lines_at document next))
-blocks_of_part document line (part.Other next) = blocks_from document 0 (lines_at document next)
+blocks_of_part document line (part.Block from to next) = with_block (record { from = from; to = to }) (blocks_from 0 document (lines_at document next))
+blocks_of_part document line (part.Other next) = blocks_from 0 document (lines_at document next)
 blocks_of_part document line part.Open = Err (OpenBlock (line_number document line.start))
 
 -- where its places are

@@ -23,7 +23,7 @@ pub struct Block {
 pub fn policy_blocks(alloc: Global, document: &[u8], start: usize) -> Result<Items<Block>, LexFault>
     requires short { length document.now < 2 ^ 32 }
     requires within { start ≤ length document.now }
-    ensures answer { IsAnswer (blocks_from document.now 0 (lines_at document.now start)) (plain_blocks result) }
+    ensures answer { IsAnswer (blocks_from 0 document.now (lines_at document.now start)) (plain_blocks result) }
     ensures places { IfOk result (λ blocks. AreBlocks document.now start blocks (length document.now)) }
 {
     let mut blocks = Items::new(alloc);
@@ -63,7 +63,7 @@ enum Part {
 
 fn part_at(document: &[u8], line: Line) -> Part
     requires { line.next ≤ length document.now }
-    ensures blocks { blocks_from document.now 0 (seen line.entry ∷ lines_at document.now line.entry.next) ≡ blocks_of_part document.now (seen line.entry) result }
+    ensures blocks { blocks_from 0 document.now (seen line.entry ∷ lines_at document.now line.entry.next) ≡ blocks_of_part document.now (seen line.entry) result }
     ensures places { IsPart document.now (seen line.entry) result }
 {
     if !is_fence(line.text) {

@@ -52,7 +52,7 @@ fn tokens_from(alloc: Global, document: &[u8], place: usize) -> Result<Items<Tok
     requires short { length document.now < 2 ^ 32 }
     requires utf8 { IsUtf8 document.now }
     requires within { place ≤ length document.now }
-    ensures answer { IsAnswer (tokens_in document.now (blocks_from document.now 0 (lines_at document.now place))) result }
+    ensures answer { IsAnswer (tokens_in document.now (blocks_from 0 document.now (lines_at document.now place))) result }
     ensures few { IfOk result (λ tokens. length tokens ≤ length document.now) }
     ensures slices { IfOk result (λ tokens. All (IsTokenOf document.now) tokens) }
 {

@@ -18,7 +18,7 @@ loop-place-preserved c =
           record {
             left = rw (w.blocks-is, w.next-is, w.in_ok-push_block-in-Block.ensures)
                 (with_one_more c.loop-place.blocks (record { from = w.in-Block.from; to = w.in-Block.to; line = line }) _
-                ∙ ap (with_plain c.loop-place.blocks) (sym w.in-Block.ensures.blocks ∙ sym (ap (blocks_from document 0) c.line_at-line.ensures.line))
+                ∙ ap (with_plain c.loop-place.blocks) (sym w.in-Block.ensures.blocks ∙ sym (ap (blocks_from 0 document) c.line_at-line.ensures.line))
                 ∙ c.loop-place.invariant.left);
             number = number_counted document place c.match-part_at.next _ _ (rw w.next-is after) c.loop-place.invariant.number c.line_feeds-number-in-loop-place.ensures.count;
             places = rw (w.blocks-is, w.next-is, w.in_ok-push_block-in-Block.ensures)
@@ -37,7 +37,7 @@ loop-place-preserved c =
           let after : place ≤ w.in-Other.next = omega (arith, places.0) in
           record {
             left = rw (w.blocks-is, w.next-is)
-                (ap (with_plain c.loop-place.blocks) (sym w.in-Other.ensures.blocks ∙ sym (ap (blocks_from document 0) c.line_at-line.ensures.line)) ∙ c.loop-place.invariant.left);
+                (ap (with_plain c.loop-place.blocks) (sym w.in-Other.ensures.blocks ∙ sym (ap (blocks_from 0 document) c.line_at-line.ensures.line)) ∙ c.loop-place.invariant.left);
             number = number_counted document place c.match-part_at.next _ _ (rw w.next-is after) c.loop-place.invariant.number c.line_feeds-number-in-loop-place.ensures.count;
             places = rw (w.blocks-is, w.next-is) (blocks_until document c.args.start c.loop-place.blocks place w.in-Other.next after c.loop-place.invariant.places);
             within = rw w.next-is places.1;
