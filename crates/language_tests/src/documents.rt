@@ -47,7 +47,19 @@ const FRONTS: [(&str, &str); 23] = [
 ];
 
 // What stands behind a front matter of three lines.
-const BLOCKS: [(&str, &str); 29] = [
+const BLOCKS: [(&str, &str); 32] = [
+    (
+        "```policy\nenum A { X }\nenum B { Y }\nenum C { Z\n: }\n```\n",
+        "enum A <0> X <1> enum B <0> Y <1> enum C <0> Z <7> <1>",
+    ),
+    (
+        "```policy\nenum A { X }\nenum B { Y }\nenum C { Z\n; }\n```\n",
+        "bad token, line 8",
+    ),
+    (
+        "```policy\nenum A { X }\nenum B { Y }\nenum C { Z\n; }\n",
+        "open block, line 4",
+    ),
     ("a\n", ""),
     ("```policy\na\n```\n", "a"),
     ("```policy\na\n```", "a"),

@@ -9,7 +9,7 @@ mod fences;
 mod front_matter;
 mod gaps;
 mod lines;
-mod numbers;
+mod number;
 mod prefix;
 mod quoted;
 mod spaces;

@@ -2,7 +2,7 @@ ghost use Rattle.std.specs.Prelude.{◌≡◌, ◌<◌, ◌≤◌, IfOk, IfSome,
 ghost use Rattle.policy_ast.specs.TokenForms.{token_at};
 ghost use Rattle.policy_lex.specs.QuotedTexts.{HoldsText};
 
-use crate::numbers::number_at;
+use crate::number::number_at;
 use crate::quoted::quoted_at;
 use crate::symbol::symbol_at;
 use crate::word::word_at;

@@ -1,6 +1,6 @@
 use Rattle.std.proofs.Common.{sym, arith}
 use Rattle.policy_lex.proofs.Digits.{digits_too_large}
-use Rattle.policy_lex.proofs.numbers.size_of.Goals as goal
+use Rattle.policy_lex.proofs.number.size_of.Goals as goal
 
 pub returns-then-size : goal.returns-then-size
 returns-then-size c =
