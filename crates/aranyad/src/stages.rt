@@ -1,5 +1,6 @@
-ghost use Rattle.std.specs.Prelude.{◌≡◌, ◌≢◌, Ok, ◌⊎◌, Option, Some, Err, IsTrue, IfSome};
+ghost use Rattle.std.specs.Prelude.{◌≡◌, ◌≢◌, Ok, Option, Some, Err, IsTrue, IfSome};
 ghost use Rattle.aranyad.specs.Ending.{HaltsWithCause, NamesFile, counts};
+ghost use Rattle.aranyad.specs.FailedReads.{FailsOne, HasPolicy};
 ghost use Rattle.aranyad.specs.Outcome.{Outcome, RunsFiles, RunsTo, limited, policy_limit, reading_outcome, script_limit, script_outcome};
 ghost use Rattle.aranyad.specs.declared.ending.Ending.TheVariants as ending;
 ghost use Rattle.aranyad.specs.declared.ending.Halt.TheVariants as halt;
@@ -32,8 +33,8 @@ fn run_script<F: Files, E: Envelope, K: Sink>(
     out: &mut K,
 ) -> Result<Ending, Halt>
     requires { IsTrue (is_sound policy.now.items) }
-    ensures run { IfSome (F.holds files.old) (λ at. IfSome E.tag_of (λ tagged.
-        RunsTo result (script_outcome tagged digest.now policy.now (limited script_limit (at script))) (K.written out.old) (K.written out.new))) }
+    ensures run { IfSome (F.holds files.old) (λ at.
+        RunsTo result (script_outcome E.tag_of digest.now policy.now.items (limited script_limit (at script))) (K.written out.old) (K.written out.new)) }
     ensures no_usage { result ≢ Ok ending.Usage }
     ensures cause { HaltsWithCause (counts (F.faults files.old) (E.faults env.old) (K.faults out.old)) (counts (F.faults files.new) (E.faults env.new) (K.faults out.new)) result }
     ensures name { NamesFile script (F.last files.new) result }
@@ -53,11 +54,12 @@ fn run_document<F: Files, E: Envelope, K: Sink>(
     env: &mut E,
     out: &mut K,
 ) -> Result<Ending, Halt>
-    ensures run { IfSome (F.holds files.old) (λ at. IfSome E.tag_of (λ tagged. (found : Option SmallPolicy) → IsReading document.now found →
-        RunsTo result (reading_outcome tagged document.now (limited script_limit (at script)) found) (K.written out.old) (K.written out.new))) }
+    ensures run { IfSome (F.holds files.old) (λ at. (found : Option SmallPolicy) → IsReading document.now found →
+        RunsTo result (reading_outcome E.tag_of document.now (limited script_limit (at script)) found) (K.written out.old) (K.written out.new)) }
     ensures no_usage { result ≢ Ok ending.Usage }
     ensures cause { HaltsWithCause (counts (F.faults files.old) (E.faults env.old) (K.faults out.old)) (counts (F.faults files.new) (E.faults env.new) (K.faults out.new)) result }
     ensures name { NamesFile script (F.last files.new) result }
+    ensures read { result ≡ Err halt.Read → HasPolicy document.now }
 {
     match read_policy(alloc, document) {
         Ok(Some(policy)) => run_script(alloc, &sha256(document), &policy, script, files, env, out),
@@ -75,12 +77,12 @@ pub fn run_files<F: Files, E: Envelope, K: Sink>(
     env: &mut E,
     out: &mut K,
 ) -> Result<Ending, Halt>
-    ensures run { IfSome (F.holds files.old) (λ at. IfSome E.tag_of (λ tagged. (outcome : Outcome) →
-        RunsFiles tagged (limited policy_limit (at policy)) (limited script_limit (at script)) outcome →
-        RunsTo result outcome (K.written out.old) (K.written out.new))) }
+    ensures run { IfSome (F.holds files.old) (λ at. (outcome : Outcome) →
+        RunsFiles E.tag_of (limited policy_limit (at policy)) (limited script_limit (at script)) outcome →
+        RunsTo result outcome (K.written out.old) (K.written out.new)) }
     ensures no_usage { result ≢ Ok ending.Usage }
     ensures cause { HaltsWithCause (counts (F.faults files.old) (E.faults env.old) (K.faults out.old)) (counts (F.faults files.new) (E.faults env.new) (K.faults out.new)) result }
-    ensures name { result ≡ Err halt.Read → (F.last files.new ≡ Some policy) ⊎ (F.last files.new ≡ Some script) }
+    ensures name { result ≡ Err halt.Read → FailsOne (F.holds files.old) policy script (F.last files.new) }
 {
     match read_limited(alloc, files, policy, POLICY_LIMIT) {
         Ok(Some(document)) => run_document(alloc, document.as_slice(), script, files, env, out),
