@@ -96,7 +96,7 @@ pub record StopsBetween (pieces : List (List ℕ)) (old new : Option (List ℕ))
   pub left : List (List ℕ)
   pub so_far : WritesUpTo pieces left old new
 
--- what was written where a seal failed: all pieces before that of the line whose command it was
+-- what was written where a seal failed: all pieces before that of one of the lines
 pub record StopsAtLine (pieces : List (List ℕ)) (old new : Option (List ℕ)) : Type 0 where
   pub next : List ℕ
   pub left : List (List ℕ)

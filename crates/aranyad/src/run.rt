@@ -1,6 +1,7 @@
-ghost use Rattle.std.specs.Prelude.{◌≡◌, ◌≢◌, Ok, ◌<◌, ◌^◌, [], ◌∷◌, ◌++◌, Some, IsTrue, IfOk, IfSome, codes};
+ghost use Rattle.std.specs.Prelude.{◌≡◌, ◌≢◌, Ok, ◌<◌, ◌^◌, [], ◌∷◌, ◌++◌, Some, IsTrue, IfOk, IfSome, OnOk, codes};
 ghost use Rattle.std.specs.List.{concat};
 ghost use Rattle.std.specs.Fmt.{decimal};
+ghost use Rattle.std.specs.Io.KnownBytes.{append_known};
 ghost use Rattle.aranyad.specs.Ending.{HaltsWithCause, LinesHalt, NamesFile, ReadHalts, WriteHalts, counts, ending_status};
 ghost use Rattle.aranyad.specs.Outcome.{RunsTo, limited, lines_outcome, refused, script_outcome};
 ghost use Rattle.aranyad.specs.declared.ending.Ending.TheVariants as ending;
@@ -50,6 +51,7 @@ pub fn read_limited<F: Files>(
 pub fn refuse<K: Sink>(out: &mut K, ending: Ending, line: &[u8]) -> Result<Ending, Halt>
     ensures run { RunsTo result (refused (ending_status ending) line.now) (K.written out.old) (K.written out.new) }
     ensures ending { IfOk result (λ end. end ≡ ending) }
+    ensures line { OnOk result (K.written out.new ≡ append_known (K.written out.old) line.now) }
     ensures cause { WriteHalts (K.faults out.old) (K.faults out.new) result }
 {
     match write_all(out, line) {

@@ -1,9 +1,10 @@
 ghost use Rattle.std.specs.Prelude.{◌≡◌, ◌≢◌, ◌⊎◌, None, Some, Ok, Err, IfSome, vec_len};
+ghost use Rattle.std.specs.Io.KnownBytes.{append_known};
 ghost use Rattle.outside.specs.Causes.{Rose};
 ghost use Rattle.aranyad.specs.Ending.{HaltsWithCause, counts};
 ghost use Rattle.aranyad.specs.FailedReads.{ReadFails};
 ghost use Rattle.aranyad.specs.Modes.{mode_of};
-ghost use Rattle.aranyad.specs.Outcome.{Follows, Outcome, Runs, RunsMode, RunsTo};
+ghost use Rattle.aranyad.specs.Outcome.{Follows, Outcome, Runs, RunsMode, RunsTo, usage_line};
 ghost use Rattle.aranyad.specs.declared.ending.Ending.TheVariants as ending;
 ghost use Rattle.aranyad.specs.declared.ending.Halt.TheVariants as halt;
 
@@ -34,6 +35,7 @@ fn run_mode<F: Files, E: Envelope, K: Sink>(
     ensures cause { HaltsWithCause (counts (F.faults files.old) (E.faults env.old) (K.faults out.old)) (counts (F.faults files.new) (E.faults env.new) (K.faults out.new)) result }
     ensures no_usage { result ≢ Ok ending.Usage }
     ensures name { result ≡ Err halt.Read → ReadFails (F.holds files.old) (Some mode) (F.last files.new) }
+    ensures nothing { result ≡ Err halt.Read → K.written out.new ≡ K.written out.old }
 {
     let Mode::Run(policy, script, _store) = mode;
     run_files(alloc, policy, script, files, env, out)
@@ -53,6 +55,8 @@ fn run_words<F: Files, E: Envelope, K: Sink>(
     ensures usage { result ≡ Ok ending.Usage → mode_of words.now ≡ None }
     ensures no_mode { mode_of words.now ≡ None → (result ≡ Ok ending.Usage) ⊎ (result ≡ Err halt.Write) }
     ensures name { result ≡ Err halt.Read → ReadFails (F.holds files.old) (mode_of words.now) (F.last files.new) }
+    ensures nothing { result ≡ Err halt.Read → K.written out.new ≡ K.written out.old }
+    ensures line { result ≡ Ok ending.Usage → K.written out.new ≡ append_known (K.written out.old) usage_line }
 {
     match choose(alloc, words) {
         Ok(mode) => run_mode(alloc, mode, files, env, out),
@@ -83,8 +87,10 @@ pub fn run_command<F: Files, D: Disk, E: Envelope, K: Sink>(
         (result ≡ outcome.status) ⊎ (result ≡ Status.NoMemory)) }
     ensures usage { result ≡ Status.Usage → mode_of words.now ≡ None }
     ensures no_mode { mode_of words.now ≡ None → (result ≡ Status.Usage) ⊎ (result ≡ Status.WriteFault) }
+    ensures usage_line { result ≡ Status.Usage → K.written out.new ≡ append_known (K.written out.old) usage_line }
     ensures read { result ≡ Status.ReadFault → Rose (F.faults files.old) (F.faults files.new) }
     ensures name { result ≡ Status.ReadFault → ReadFails (F.holds files.old) (mode_of words.now) (F.last files.new) }
+    ensures nothing { result ≡ Status.ReadFault → K.written out.new ≡ K.written out.old }
     ensures write { result ≡ Status.WriteFault → Rose (K.faults out.old) (K.faults out.new) }
     ensures seal { result ≡ Status.SealFault → Rose (E.faults env.old) (E.faults env.new) }
     ensures no_disk { result ≢ Status.DiskFault }

@@ -38,6 +38,7 @@ fn run_script<F: Files, E: Envelope, K: Sink>(
     ensures no_usage { result ≢ Ok ending.Usage }
     ensures cause { HaltsWithCause (counts (F.faults files.old) (E.faults env.old) (K.faults out.old)) (counts (F.faults files.new) (E.faults env.new) (K.faults out.new)) result }
     ensures name { NamesFile script (F.last files.new) result }
+    ensures nothing { result ≡ Err halt.Read → K.written out.new ≡ K.written out.old }
 {
     match read_limited(alloc, files, script, SCRIPT_LIMIT) {
         Ok(bytes) => run_bytes(alloc, digest, policy, bytes, env, out),
@@ -59,6 +60,7 @@ fn run_document<F: Files, E: Envelope, K: Sink>(
     ensures no_usage { result ≢ Ok ending.Usage }
     ensures cause { HaltsWithCause (counts (F.faults files.old) (E.faults env.old) (K.faults out.old)) (counts (F.faults files.new) (E.faults env.new) (K.faults out.new)) result }
     ensures name { NamesFile script (F.last files.new) result }
+    ensures nothing { result ≡ Err halt.Read → K.written out.new ≡ K.written out.old }
     ensures read { result ≡ Err halt.Read → HasPolicy document.now }
 {
     match read_policy(alloc, document) {
@@ -83,6 +85,7 @@ pub fn run_files<F: Files, E: Envelope, K: Sink>(
     ensures no_usage { result ≢ Ok ending.Usage }
     ensures cause { HaltsWithCause (counts (F.faults files.old) (E.faults env.old) (K.faults out.old)) (counts (F.faults files.new) (E.faults env.new) (K.faults out.new)) result }
     ensures name { result ≡ Err halt.Read → FailsOne (F.holds files.old) policy script (F.last files.new) }
+    ensures nothing { result ≡ Err halt.Read → K.written out.new ≡ K.written out.old }
 {
     match read_limited(alloc, files, policy, POLICY_LIMIT) {
         Ok(Some(document)) => run_document(alloc, document.as_slice(), script, files, env, out),
