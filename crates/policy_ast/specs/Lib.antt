@@ -1,2 +1,9 @@
 -- The definitions that the contracts of this crate cite.
 pub mod Words
+pub mod DocumentFault
+pub mod Lines
+pub mod Spaces
+pub mod FrontMatter
+pub mod Fences
+pub mod TokenForms
+pub mod DocumentTokens

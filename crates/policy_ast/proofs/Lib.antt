@@ -1,0 +1,2 @@
+-- What serves proofs alone, and the definitions of tokens tried on small documents.
+mod DocumentRows

@@ -1,0 +1,88 @@
+ghost use Rattle.std.specs.Prelude.{◌≡◌, [], ◌∷◌, ◌++◌, ◌^◌, ◌<◌, ◌≤◌, IfOk, IfSome, OnOk, length};
+ghost use Rattle.policy_ast.specs.DocumentTokens.{block_tokens, joined};
+ghost use Rattle.policy_lex.specs.Answers.{IsAnswer};
+ghost use Rattle.policy_lex.specs.BlockViews.{IsBlock, plain};
+ghost use Rattle.policy_ast.specs.TokenForms.{gap_at, token_at};
+ghost use Rattle.policy_lex.specs.Pieces.{piece_of};
+
+use crate::LexFault;
+use crate::blocks::Block;
+use crate::gaps::gap_at;
+use crate::lines::line_feeds;
+use crate::token::token_at;
+use base_bytes::NoMemory;
+use policy_ast::{Token, TokenKind};
+use sqlite_items::Items;
+use std::alloc::Global;
+
+/// The tokens so far, and behind them those of a block.
+pub fn with_block_tokens(
+    alloc: Global,
+    document: &[u8],
+    block: Block,
+    tokens: Items<Token>,
+) -> Result<Items<Token>, LexFault>
+    requires short { length document.now < 2 ^ 32 }
+    requires block { IsBlock document.now (length tokens) block }
+    ensures answer { IsAnswer (joined tokens (block_tokens document.now (plain block))) result }
+    ensures few { IfOk result (λ all. length all ≤ block.to) }
+{
+    let mut tokens = tokens;
+    let mut place = block.from;
+    let mut line = block.line;
+    while place < block.to {
+        let rest = &document[place..block.to];
+        let Some(Piece { token, size }) = piece_at(alloc, rest)? else {
+            return Err(LexFault::BadToken(line as u32));
+        };
+        if let Some(kind) = token {
+            let line = line as u32;
+            let end = place + size;
+            push_token(
+                &mut tokens,
+                Token {
+                    kind,
+                    line,
+                    start: place,
+                    end,
+                },
+            )?;
+        }
+        line += line_feeds(&rest[..size]);
+        place += size;
+    }
+    Ok(tokens)
+}
+
+fn push_token(tokens: &mut Items<Token>, token: Token) -> Result<(), NoMemory>
+    ensures { OnOk result (tokens.new ≡ tokens.old ++ token ∷ []) }
+{
+    tokens.push(token)?;
+    Ok(())
+}
+
+/// A token or none, and how many bytes it takes.
+#[derive(Drop)]
+struct Piece {
+    token: Option<TokenKind>,
+    size: usize,
+}
+
+/// The token that bytes begin with, or what stands between tokens.
+fn piece_at(alloc: Global, bytes: &[u8]) -> Result<Option<Piece>, NoMemory>
+    requires { 0 < length bytes.now }
+    ensures piece { IfOk result (λ o. o ≡ piece_of (gap_at bytes.now) (token_at bytes.now)) }
+    ensures some { IfOk result (λ o. IfSome o (λ piece. 0 < piece.size)) }
+    ensures within { IfOk result (λ o. IfSome o (λ piece. piece.size ≤ length bytes.now)) }
+{
+    if let Some(size) = gap_at(bytes) {
+        return Ok(Some(Piece { token: None, size }));
+    }
+    match token_at(alloc, bytes)? {
+        Some((kind, size)) => Ok(Some(Piece {
+            token: Some(kind),
+            size,
+        })),
+        None => Ok(None),
+    }
+}

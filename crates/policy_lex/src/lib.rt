@@ -1,0 +1,21 @@
+//! The tokens of a policy document.
+#![tactic(auto)]
+
+mod block_tokens;
+mod blocks;
+mod document;
+mod fault;
+mod fences;
+mod front_matter;
+mod gaps;
+mod lines;
+mod numbers;
+mod prefix;
+mod quoted;
+mod spaces;
+mod symbol;
+mod token;
+mod word;
+
+pub use document::tokens;
+pub use fault::LexFault;

@@ -1,0 +1,29 @@
+ghost use Rattle.std.specs.Prelude.{◌≡◌, ◌<◌, ◌≤◌, IfOk, IfSome, length};
+ghost use Rattle.policy_ast.specs.TokenForms.{token_at};
+
+use crate::numbers::number_at;
+use crate::quoted::quoted_at;
+use crate::symbol::symbol_at;
+use crate::word::word_at;
+use base_bytes::NoMemory;
+use policy_ast::TokenKind;
+use std::alloc::Global;
+
+/// The token that bytes begin with, and how many bytes it takes.
+pub fn token_at(alloc: Global, bytes: &[u8]) -> Result<Option<(TokenKind, usize)>, NoMemory>
+    requires { 0 < length bytes.now }
+    ensures token { IfOk result (λ o. o ≡ token_at bytes.now) }
+    ensures some { IfOk result (λ o. IfSome o (λ piece. 0 < piece.1)) }
+    ensures within { IfOk result (λ o. IfSome o (λ piece. piece.1 ≤ length bytes.now)) }
+{
+    if let Some(word) = word_at(alloc, bytes)? {
+        return Ok(Some(word));
+    }
+    if let Some(number) = number_at(bytes) {
+        return Ok(Some(number));
+    }
+    if let Some(quoted) = quoted_at(alloc, bytes)? {
+        return Ok(Some(quoted));
+    }
+    Ok(symbol_at(bytes))
+}
