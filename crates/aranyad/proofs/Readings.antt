@@ -4,11 +4,12 @@ use Rattle.aranyad.specs.declared.ending.Ending.{Ending}
 use Rattle.aranyad.specs.declared.ending.Halt.{Halt}
 use Rattle.aranyad.specs.declared.status.Status.TheVariants as status
 use Rattle.outside.specs.Files.{Holding}
+use Rattle.policy_ast.specs.DocumentTokens.{document_tokens}
 use Rattle.aranyad.specs.declared.mode.Mode.{Mode}
 use Rattle.aranyad.specs.declared.first.policy.SmallPolicy.{SmallPolicy}
 use Rattle.aranyad.specs.first.Acting.{Tagging}
 use Rattle.aranyad.specs.first.Document.{IsReading}
-use Rattle.aranyad.specs.Outcome.{Outcome, RunsFiles, RunsMode, RunsTo, reading_outcome, refused, usage_line}
+use Rattle.aranyad.specs.Outcome.{Outcome, RunsFiles, RunsMode, RunsTo, reading_outcome, refused, tokens_outcome, usage_line}
 use Rattle.aranyad.proofs.Reader.{small_is_read}
 
 -- two readings of a document are the same
@@ -35,14 +36,14 @@ files_too_long told (Some (Some d)) script result old new is runs outcome of = a
 
 -- the policy's file was read, within its limit
 pub files_read : (told : Option Tagging) (file script : Option (Option (List ℕ))) (document : List ℕ) (result : Result Ending Halt) (old new : Option (List ℕ)) → file ≡ Some (Some document) →
-    ((found : Option SmallPolicy) → IsReading document found → RunsTo result (reading_outcome told document script found) old new) →
+    ((found : Option SmallPolicy) → IsReading document found → RunsTo result (tokens_outcome told (document_tokens document) document script found) old new) →
     (outcome : Outcome) → RunsFiles told file script outcome → RunsTo result outcome old new
 files_read told None script document result old new is runs outcome of = absurd (cc)
 files_read told (Some None) script document result old new is runs outcome of = absurd (cc)
 files_read told (Some (Some d)) script document result old new is runs outcome of =
     let same : d ≡ document = cc in
     let reads : IsReading document of.0 = subst (λ (l : List ℕ). IsReading l of.0) same of.1 in
-    let outcome_is : outcome ≡ reading_outcome told document script of.0 = of.2 ∙ ap (λ (l : List ℕ). reading_outcome told l script of.0) same in
+    let outcome_is : outcome ≡ tokens_outcome told (document_tokens document) document script of.0 = of.2 ∙ ap (λ (l : List ℕ). tokens_outcome told (document_tokens l) l script of.0) same in
     subst (λ (o : Outcome). RunsTo result o old new) (sym outcome_is) (runs of.0 reads)
 
 -- words of no mode

@@ -1,14 +1,18 @@
 -- Which read it is that failed, where one ended a run.
-use Rattle.std.specs.Prelude.{◌≡◌, ◌⊎◌, ℕ, List, Option, None, Some, IfSome}
+use Rattle.std.specs.Prelude.{◌≡◌, ◌⊎◌, ℕ, List, Option, None, Some, Ok, IfSome}
 use Rattle.outside.specs.Files.{Holding}
+use Rattle.policy_ast.specs.DocumentTokens.{document_tokens}
+use Rattle.policy_ast.specs.declared.token.Token.{Token}
 use Rattle.aranyad.specs.declared.first.policy.SmallPolicy.{SmallPolicy}
 use Rattle.aranyad.specs.declared.mode.Mode.{Mode}
 use Rattle.aranyad.specs.declared.mode.Mode.TheVariants.{Run}
 use Rattle.aranyad.specs.first.Document.{IsSmall}
 use Rattle.aranyad.specs.Outcome.{limited, policy_limit}
 
--- a document that is a policy
+-- a document that has tokens and is a policy
 pub record HasPolicy (document : List ℕ) : Type 0 where
+  pub tokens : List Token
+  pub lexed : document_tokens document ≡ Ok tokens
   pub policy : SmallPolicy
   pub small : IsSmall document policy
 

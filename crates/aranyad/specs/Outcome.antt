@@ -7,6 +7,8 @@ use Rattle.std.specs.Fmt.{decimal}
 use Rattle.std.specs.Io.KnownBytes.{append_known}
 use Rattle.sha2.specs.Sha256.{sha256}
 use Rattle.outside.specs.Files.{Holding}
+use Rattle.policy_ast.specs.DocumentFault.{DocumentFault, NotUtf8, NoFrontMatter, WrongVersion, OpenBlock, BadToken}
+use Rattle.policy_ast.specs.DocumentTokens.{Tokens, document_tokens}
 use Rattle.aranyad.specs.declared.mode.Mode.{Mode}
 use Rattle.aranyad.specs.declared.mode.Mode.TheVariants.{Run}
 use Rattle.aranyad.specs.declared.status.Status.{Status}
@@ -63,18 +65,34 @@ module _ (told : Option Tagging) (digest : List ℕ) (items : List Item) where
   script_outcome (Some None) = refused status.TooLarge (codes "too large: script\n")
   script_outcome (Some (Some script)) = lines_outcome (script_of items script)
 
+-- the line of a document that is refused at one of its lines
+abbrev pub policy_line : List ℕ → ℕ → List ℕ
+policy_line what line = concat (codes "policy refused: " ∷ what ∷ codes ", line " ∷ decimal line ∷ codes "\n" ∷ [])
+
+abbrev pub fault_line : DocumentFault → List ℕ
+fault_line (NotUtf8 line) = policy_line (codes "not utf-8") line
+fault_line NoFrontMatter = policy_line (codes "no front matter") 1
+fault_line (WrongVersion line) = policy_line (codes "wrong version") line
+fault_line (OpenBlock line) = policy_line (codes "open block") line
+fault_line (BadToken line) = policy_line (codes "bad token") line
+
 module _ (told : Option Tagging) where
   -- a document that is no small policy is refused, before the script is read
   abbrev pub reading_outcome : List ℕ → Option (Option (List ℕ)) → Option SmallPolicy → Outcome
   reading_outcome document script None = refused status.PolicyRefused (codes "policy refused: unbuilt\n")
   reading_outcome document script (Some policy) = script_outcome told (sha256 document) policy.items script
 
+  -- its tokens are judged before that
+  abbrev pub tokens_outcome : Tokens → List ℕ → Option (Option (List ℕ)) → Option SmallPolicy → Outcome
+  tokens_outcome (Err fault) document script found = refused status.PolicyRefused (fault_line fault)
+  tokens_outcome (Ok tokens) document script found = reading_outcome document script found
+
   -- a run over the policy's file and the script's
   abbrev pub RunsFiles : Option (Option (List ℕ)) → Option (Option (List ℕ)) → Outcome → Type 0
   RunsFiles None script outcome = outcome ≡ ended status.ReadFault
   RunsFiles (Some None) script outcome = outcome ≡ refused status.TooLarge (codes "too large: policy\n")
   RunsFiles (Some (Some document)) script outcome =
-      (found : Option SmallPolicy) × IsReading document found × (outcome ≡ reading_outcome document script found)
+      (found : Option SmallPolicy) × IsReading document found × (outcome ≡ tokens_outcome (document_tokens document) document script found)
 
   abbrev pub RunsMode : Holding → Option Mode → Outcome → Type 0
   RunsMode at None outcome = outcome ≡ refused status.Usage usage_line

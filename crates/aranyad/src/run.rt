@@ -1,4 +1,4 @@
-ghost use Rattle.std.specs.Prelude.{◌≡◌, ◌≢◌, Ok, ◌<◌, ◌^◌, [], ◌∷◌, ◌++◌, Some, IsTrue, IfOk, IfSome, OnOk, codes};
+ghost use Rattle.std.specs.Prelude.{◌≡◌, ◌≢◌, Ok, ◌<◌, ◌^◌, [], ◌∷◌, ◌++◌, Some, IsTrue, IfOk, IfSome, OnOk, codes, ◌≤◌, length};
 ghost use Rattle.std.specs.List.{concat};
 ghost use Rattle.std.specs.Fmt.{decimal};
 ghost use Rattle.std.specs.Io.KnownBytes.{append_known};
@@ -31,6 +31,7 @@ pub fn read_limited<F: Files>(
 ) -> Result<Option<Bytes>, Halt>
     requires { limit < 2 ^ 32 }
     ensures found { IfOk result (λ found. IfSome (F.holds files.old) (λ at. limited limit (at name) ≡ Some found)) }
+    ensures short { IfOk result (λ found. IfSome found (λ bytes. length bytes ≤ limit)) }
     ensures holds { F.holds files.new ≡ F.holds files.old }
     ensures cause { ReadHalts name (F.faults files.old) (F.faults files.new) (F.last files.new) result }
 {

@@ -1,19 +1,22 @@
-ghost use Rattle.std.specs.Prelude.{◌≡◌, ◌≢◌, Ok, Option, Some, Err, IsTrue, IfSome};
+ghost use Rattle.std.specs.Prelude.{◌≡◌, ◌≢◌, ◌<◌, ◌^◌, Ok, Option, Some, Err, IsTrue, IfSome, length};
 ghost use Rattle.aranyad.specs.Ending.{HaltsWithCause, NamesFile, counts};
 ghost use Rattle.aranyad.specs.FailedReads.{FailsOne, HasPolicy};
-ghost use Rattle.aranyad.specs.Outcome.{Outcome, RunsFiles, RunsTo, limited, policy_limit, reading_outcome, script_limit, script_outcome};
+ghost use Rattle.aranyad.specs.Outcome.{Outcome, RunsFiles, RunsTo, limited, policy_limit, reading_outcome, script_limit, script_outcome, tokens_outcome};
 ghost use Rattle.aranyad.specs.declared.ending.Ending.TheVariants as ending;
 ghost use Rattle.aranyad.specs.declared.ending.Halt.TheVariants as halt;
 ghost use Rattle.aranyad.specs.declared.first.policy.SmallPolicy.{SmallPolicy};
-ghost use Rattle.aranyad.specs.first.Document.{IsReading};
+ghost use Rattle.aranyad.specs.first.Document.{IsReading, IsSmall};
+ghost use Rattle.policy_ast.specs.DocumentTokens.{document_tokens};
 ghost use Rattle.aranyad.specs.first.Sound.{is_sound};
 
 use crate::ending::{Ending, Halt};
 use crate::first::document::read_policy;
 use crate::first::policy::SmallPolicy;
+use crate::refusal::fault_line;
 use crate::run::{read_limited, refuse, run_bytes};
 use base_bytes::{Id, NoMemory, Text, sha256};
 use outside::{Envelope, Files, Sink};
+use policy_lex::tokens;
 use std::alloc::Global;
 
 /// A policy document has at most so many bytes.
@@ -46,8 +49,8 @@ fn run_script<F: Files, E: Envelope, K: Sink>(
     }
 }
 
-/// Runs a policy's document that was read up to its limit, and then the script's file.
-fn run_document<F: Files, E: Envelope, K: Sink>(
+/// Runs a document that has tokens, and then the script's file.
+fn run_lexed<F: Files, E: Envelope, K: Sink>(
     alloc: Global,
     document: &[u8],
     script: Text,
@@ -61,12 +64,39 @@ fn run_document<F: Files, E: Envelope, K: Sink>(
     ensures cause { HaltsWithCause (counts (F.faults files.old) (E.faults env.old) (K.faults out.old)) (counts (F.faults files.new) (E.faults env.new) (K.faults out.new)) result }
     ensures name { NamesFile script (F.last files.new) result }
     ensures nothing { result ≡ Err halt.Read → K.written out.new ≡ K.written out.old }
-    ensures read { result ≡ Err halt.Read → HasPolicy document.now }
+    ensures read { result ≡ Err halt.Read → (policy : SmallPolicy) × IsSmall document.now policy }
 {
     match read_policy(alloc, document) {
         Ok(Some(policy)) => run_script(alloc, &sha256(document), &policy, script, files, env, out),
         Ok(None) => refuse(out, Ending::PolicyRefused, b"policy refused: unbuilt\n"),
         Err(NoMemory) => Err(Halt::Memory),
+    }
+}
+
+/// Runs a policy's document that was read up to its limit, and then the script's file.
+fn run_document<F: Files, E: Envelope, K: Sink>(
+    alloc: Global,
+    document: &[u8],
+    script: Text,
+    files: &mut F,
+    env: &mut E,
+    out: &mut K,
+) -> Result<Ending, Halt>
+    requires { length document.now < 2 ^ 32 }
+    ensures run { IfSome (F.holds files.old) (λ at. (found : Option SmallPolicy) → IsReading document.now found →
+        RunsTo result (tokens_outcome E.tag_of (document_tokens document.now) document.now (limited script_limit (at script)) found) (K.written out.old) (K.written out.new)) }
+    ensures no_usage { result ≢ Ok ending.Usage }
+    ensures cause { HaltsWithCause (counts (F.faults files.old) (E.faults env.old) (K.faults out.old)) (counts (F.faults files.new) (E.faults env.new) (K.faults out.new)) result }
+    ensures name { NamesFile script (F.last files.new) result }
+    ensures nothing { result ≡ Err halt.Read → K.written out.new ≡ K.written out.old }
+    ensures read { result ≡ Err halt.Read → HasPolicy document.now }
+{
+    match tokens(alloc, document) {
+        Ok(_tokens) => run_lexed(alloc, document, script, files, env, out),
+        Err(fault) => match fault_line(alloc, fault) {
+            Ok(line) => refuse(out, Ending::PolicyRefused, line.as_slice()),
+            Err(NoMemory) => Err(Halt::Memory),
+        },
     }
 }
 

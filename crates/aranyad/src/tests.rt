@@ -1,5 +1,6 @@
 // Tables of runs of `run_command` on the objects in memory.
 mod devices;
+mod documents;
 mod limits;
 mod narrow_sink;
 mod rows;
@@ -43,7 +44,8 @@ fn row_words(alloc: Global, row: &Row) -> Result<Vec<Text>, NoMemory> {
 
 fn row_files(alloc: Global, row: &Row) -> Result<MemoryFiles, NoMemory> {
     let mut files = Vec::new(alloc);
-    let policy = filled(alloc, row.policy, row.policy_length)?;
+    let mut policy = filled(alloc, row.policy, row.policy_length)?;
+    policy.extend(row.policy_end)?;
     files.push((Text::from_slice(alloc, "policy")?, policy))?;
     let script = filled(alloc, row.script, row.script_length)?;
     files.push((Text::from_slice(alloc, "script")?, script))?;
@@ -109,6 +111,22 @@ fn other_words_print_the_usage_line(rt: HostRuntime) -> Result<(), Fail> {
             words,
             status: 2,
             text: words::USAGE,
+            ..FIRST
+        };
+        assert_row(&rt, rt.alloc(), &row)?;
+    }
+    Ok(())
+}
+
+#[test]
+fn documents_are_refused_with_their_line(rt: HostRuntime) -> Result<(), Fail> {
+    for (name, policy, policy_end, text) in documents::REFUSED {
+        let row = Row {
+            name,
+            policy,
+            policy_end,
+            status: 1,
+            text,
             ..FIRST
         };
         assert_row(&rt, rt.alloc(), &row)?;

@@ -59,19 +59,19 @@ pub const ROWS: [Row; 11] = [
         ..FIRST
     },
     Row {
-        name: "no small policy, and no script",
+        name: "a document without tokens, and no script",
         words: &["run", "policy", "gone"],
         policy: "x\n",
         status: 1,
-        text: &["policy refused: unbuilt\n"],
+        text: &["policy refused: no front matter, line 1\n"],
         ..FIRST
     },
     Row {
-        name: "no small policy, and a script of a byte more",
+        name: "a document without tokens, and a script of a byte more",
         policy: "x\n",
         script_length: 4_194_305,
         status: 1,
-        text: &["policy refused: unbuilt\n"],
+        text: &["policy refused: no front matter, line 1\n"],
         ..FIRST
     },
     Row {

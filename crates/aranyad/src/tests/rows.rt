@@ -1,13 +1,14 @@
 // A row of a table, and the run that the others vary.
 
 /// A run and what must come of it. The files `policy` and `script` are texts whose last space is repeated until they have
-/// their length; the calls with these numbers, from 1, are to fail; a write takes at most so many bytes.
+/// their length, and the policy has these bytes behind its text; the calls with these numbers, from 1, are to fail; a write takes at most so many bytes.
 #[derive(Clone, Copy)]
 pub struct Row {
     pub name: &'static str,
     pub words: &'static [&'static str],
     pub policy: &'static str,
     pub policy_length: usize,
+    pub policy_end: &'static [u8],
     pub script: &'static str,
     pub script_length: usize,
     pub failing_read: u64,
@@ -41,6 +42,7 @@ pub const FIRST: Row = Row {
     words: &["run", "policy", "script"],
     policy: POLICY,
     policy_length: 0,
+    policy_end: b"",
     script: SCRIPT,
     script_length: 0,
     failing_read: 0,

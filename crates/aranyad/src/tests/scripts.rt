@@ -1,4 +1,4 @@
-// Small scripts, policies and scripts that are refused.
+// Small scripts, and scripts that are refused.
 use crate::tests::rows::{ACT, FIRST, INIT, REPLICA, Row};
 
 const UNCHECKED: &[&str] = &[
@@ -8,7 +8,7 @@ const UNCHECKED: &[&str] = &[
     "facts a: 0\n",
 ];
 
-pub const ROWS: [Row; 18] = [
+pub const ROWS: [Row; 16] = [
     // Scripts that run.
     FIRST,
     Row {
@@ -45,21 +45,6 @@ pub const ROWS: [Row; 18] = [
         name: "a check that fails, with spaces and carriage returns",
         script: "  replica  a\r\ninit a start ( )\r\nact a put( -0 ) \nfacts a",
         text: UNCHECKED,
-        ..FIRST
-    },
-    // Documents that are no small policy.
-    Row {
-        name: "an empty document",
-        policy: "",
-        status: 1,
-        text: &["policy refused: unbuilt\n"],
-        ..FIRST
-    },
-    Row {
-        name: "a document of one word",
-        policy: "x\n",
-        status: 1,
-        text: &["policy refused: unbuilt\n"],
         ..FIRST
     },
     // Scripts with a bad line, which run no line.
