@@ -1,5 +1,5 @@
 -- The tokens of a document: those of its policy blocks in order, or the first fault.
-use Rattle.std.specs.Prelude.{ℕ, zero, suc, ◌+◌, ◌-◌, if◌then◌else◌, List, [], ◌∷◌, ◌++◌, slice_range, Option, Some, None, Result, Ok, Err}
+use Rattle.std.specs.Prelude.{◌≡◌, ℕ, zero, suc, ◌+◌, ◌-◌, ◌<◌, ◌≤◌, length, if◌then◌else◌, List, [], ◌∷◌, ◌++◌, slice_range, Option, Some, None, Result, Ok, Err}
 use Rattle.std.specs.Str.{is_utf8}
 use Rattle.std.specs.Str.Lossy.{utf8_valid_len}
 use Rattle.policy_ast.specs.declared.token.Token.{Token}
@@ -61,3 +61,10 @@ unfoldable pub document_tokens : List ℕ → Tokens
 document_tokens document =
     if is_utf8 document then tokens_behind document (behind_front_matter document (document_lines document))
     else Err (NotUtf8 (line_number document (utf8_valid_len document)))
+
+-- the token is one of the document: its slice, read by itself, is that token and nothing else, and its line is the one in which it begins
+pub record IsTokenOf (document : List ℕ) (token : Token) : Type 0 where
+  pub ordered : token.start < token.end
+  pub within : token.end ≤ length document
+  pub line : token.line ≡ line_number document token.start
+  pub read : token_at (slice_range document token.start token.end) ≡ Some (token.kind, token.end - token.start)

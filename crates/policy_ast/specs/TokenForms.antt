@@ -4,7 +4,7 @@ use Rattle.std.specs.Prelude.{ℕ, ℤ, pos, neg_ℤ, ◌+◌, Bool, true, false
 use Rattle.std.specs.Char.{is_ascii_digit}
 use Rattle.std.specs.List.{find, position, starts_with, take_while}
 use Rattle.std.specs.Option.{option_and_then, option_or}
-use Rattle.std.specs.Str.{byte, bytes_eq, is_utf8}
+use Rattle.std.specs.Str.{byte, bytes_eq}
 use Rattle.std.specs.Str.Parse.{digits_value}
 use Rattle.base_bytes.specs.Values.{fits_int}
 use Rattle.base_bytes.specs.Words.{is_word, is_word_byte}
@@ -66,12 +66,12 @@ text_from false (c ∷ rest) =
     else if is_line_feed c then None
     else longer (if is_backslash c then [] else c ∷ []) (text_from (is_backslash c) rest)
 
--- a text in quotation marks holds characters; in a document that is UTF-8 there is nothing else
-abbrev pub quoted : List ℕ × ℕ → Option Piece
-quoted text = if is_utf8 text.0 then Some (Quoted text.0, text.1 + 1) else None
+abbrev pub quoted : List ℕ × ℕ → Piece
+quoted text = (Quoted text.0, text.1 + 1)
 
+-- a text in quotation marks, with its escapes resolved
 unfoldable pub quoted_at : List ℕ → Option Piece
-quoted_at bytes = option_and_then (λ rest. option_and_then quoted (text_from false rest)) (behind (codes "\"") bytes)
+quoted_at bytes = option_map quoted (option_and_then (text_from false) (behind (codes "\"") bytes))
 
 -- the symbols, by their places
 abbrev pub symbols : List (List ℕ)

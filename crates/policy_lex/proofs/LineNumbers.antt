@@ -22,7 +22,7 @@ pub number_counted : (document : List ℕ) (place next number count : ℕ) → p
     → count ≡ count_by is_line_feed (take (next - place) (drop place document)) → number + count ≡ line_number document next
 number_counted document place next number count le is counted = rw (is, counted) (number_passed document place next le)
 
-taken_twice : (m n : ℕ) (xs : List ℕ) → m ≤ n → take m (take n xs) ≡ take m xs
+pub taken_twice : (m n : ℕ) (xs : List ℕ) → m ≤ n → take m (take n xs) ≡ take m xs
 taken_twice zero n xs le = refl
 taken_twice (suc m) zero xs le = absurd (omega arith)
 taken_twice (suc m) (suc n) [] le = refl

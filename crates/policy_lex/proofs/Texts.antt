@@ -1,12 +1,11 @@
 -- The text between quotation marks, byte by byte.
-use Rattle.std.proofs.Common.{◌≡◌, ℕ, ◌+◌, ◌<◌, ◌≤◌, Bool, true, false, if◌then◌else◌, List, [], ◌∷◌, ◌++◌, length, drop, get_or, refl, ap, arith, Option, Some, None, option_map, append_assoc, append-nil, codes, length-drop}
-use Rattle.std.specs.Str.{IsUtf8, is_utf8}
-use Rattle.std.proofs.lemmas.Str.{IsUtf8-from_is_utf8, is_utf8-from_IsUtf8}
+use Rattle.std.proofs.Common.{◌≡◌, ℕ, ◌+◌, ◌<◌, ◌≤◌, Bool, true, false, if◌then◌else◌, List, [], ◌∷◌, ◌++◌, length, drop, get_or, refl, ap, sym, ◌∙◌, arith, Option, Some, None, option_map, append_assoc, append-nil, codes, length-drop}
+use Rattle.std.specs.Str.{IsUtf8}
 use Rattle.policy_ast.specs.declared.token.TokenKind.TheVariants.{Quoted}
 use Rattle.std.specs.Option.{option_and_then}
 use Rattle.policy_ast.specs.Lines.{is_line_feed}
 use Rattle.policy_ast.specs.TokenForms.{behind, escaped, is_backslash, is_quotation_mark, longer, quoted_at, text_from}
-use Rattle.policy_lex.specs.Steps.{meaning, step_of}
+use Rattle.policy_lex.specs.QuotedTexts.{HoldsText, meaning, step_of}
 use Rattle.policy_lex.specs.declared.quoted.Step.{Step}
 use Rattle.policy_lex.specs.declared.quoted.Step.TheVariants.{Closes, Breaks, Escapes, Means}
 use Rattle.policy_lex.proofs.Drops.{dropped}
@@ -65,17 +64,11 @@ text_ended follows bytes i past = text_left_open follows (drop i bytes) (omega (
 pub text_closed : (text : List ℕ) (n : ℕ) → with_front text n (Some ([], 1)) ≡ Some (text, n + 1)
 text_closed text n = let same : 1 + n ≡ n + 1 = omega arith in rw (append-nil text, same) refl
 
-pub not_utf8 : (b : Bool) (text : List ℕ) → is_utf8 text ≡ b → ¬ IsUtf8 text → b ≡ false
-not_utf8 true text is not = absurd (not (IsUtf8-from_is_utf8 text is))
-not_utf8 false text is not = refl
-
--- a text that is read, and one that holds no characters
-pub text_quoted : (bytes rest text : List ℕ) (size : ℕ) → Some rest ≡ behind (codes "\"") bytes → Some (text, size) ≡ text_from false rest → IsUtf8 text
+-- a text that is read
+pub text_quoted : (bytes rest text : List ℕ) (size : ℕ) → Some rest ≡ behind (codes "\"") bytes → Some (text, size) ≡ text_from false rest
     → Some (Quoted text, size + 1) ≡ quoted_at bytes
 unfolding quoted_at
-text_quoted bytes rest text size is found utf8 = rw (← is, ← found, is_utf8-from_IsUtf8 text utf8) refl
+text_quoted bytes rest text size is found = rw (← is, ← found) refl
 
-pub text_refused : (bytes rest text : List ℕ) (size : ℕ) → Some rest ≡ behind (codes "\"") bytes → Some (text, size) ≡ text_from false rest → ¬ IsUtf8 text
-    → None ≡ quoted_at bytes
-unfolding quoted_at
-text_refused bytes rest text size is found not = rw (← is, ← found, not_utf8 (is_utf8 text) text refl not) refl
+pub text_held : (bytes rest text : List ℕ) (size : ℕ) → Some rest ≡ behind (codes "\"") bytes → Some (text, size) ≡ text_from false rest → HoldsText bytes → IsUtf8 text
+text_held bytes rest text size is found held = held (text, size) (ap (option_and_then (text_from false)) (sym is) ∙ sym found)

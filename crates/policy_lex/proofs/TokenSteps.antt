@@ -4,13 +4,16 @@ use Rattle.std.proofs.lemmas.List.{drop-drop, drop-take}
 use Rattle.policy_ast.specs.declared.token.Token.{Token}
 use Rattle.policy_ast.specs.declared.token.TokenKind.{TokenKind}
 use Rattle.policy_ast.specs.DocumentFault.{DocumentFault, BadToken}
-use Rattle.policy_ast.specs.DocumentTokens.{Tokens, block_tokens, blocks_tokens, both, joined, token_of, tokens_from, with_piece}
+use Rattle.policy_ast.specs.DocumentTokens.{IsTokenOf, Tokens, block_tokens, blocks_tokens, both, joined, token_of, tokens_from, with_piece}
 use Rattle.policy_ast.specs.Lines.{line_number}
 use Rattle.policy_ast.specs.TokenForms.{gap_at, token_at}
 use Rattle.policy_lex.specs.BlockViews.{plain}
 use Rattle.policy_lex.specs.declared.block_tokens.Piece.{Piece}
 use Rattle.policy_lex.specs.declared.blocks.Block.{Block}
 use Rattle.policy_lex.specs.Pieces.{piece_of}
+use Rattle.policy_lex.proofs.LineNumbers.{taken_twice}
+use Rattle.policy_lex.proofs.Slices.{none_some, same_some}
+use Rattle.policy_lex.proofs.TokenSlices.{token_alone}
 
 -- no token begins inside a piece
 tokens_inside : (document : List ℕ) (place inside : ℕ) (bytes : List ℕ) → tokens_from document place inside bytes ≡ tokens_from document (place + inside) 0 (drop inside bytes)
@@ -25,13 +28,6 @@ tokens_inside document place (suc inside) (c ∷ bytes) =
 abbrev pub after_piece : List ℕ → ℕ → Option TokenKind → ℕ → Tokens → Tokens
 after_piece document place None size tokens = tokens
 after_piece document place (Some kind) size tokens = joined (token_of document place (kind, size) ∷ []) tokens
-
-abbrev some_or : {A : Type 0} → A → Option A → A
-some_or x None = x
-some_or x (Some y) = y
-
-same_some : {A : Type 0} (x y : A) → Some x ≡ Some y → x ≡ y
-same_some x y is = ap (some_or x) is
 
 pieced : (document : List ℕ) (place : ℕ) (gap : Option ℕ) (token : Option (TokenKind × ℕ)) (piece : Piece) (behind : ℕ → Tokens) → Some piece ≡ piece_of gap token
     → with_piece document place gap token behind ≡ after_piece document place piece.token piece.size (behind piece.size)
@@ -137,3 +133,28 @@ blocks_joined document tokens all block blocks is = joined_both tokens all (bloc
 pub blocks_failed : (document : List ℕ) (tokens : List Token) (fault : DocumentFault) (block : Block) (blocks : List Block) → joined tokens (block_tokens document (plain block)) ≡ Err fault
     → joined tokens (blocks_tokens document (map plain (block ∷ blocks))) ≡ Err fault
 blocks_failed document tokens fault block blocks is = joined_failed tokens fault (block_tokens document (plain block)) (blocks_tokens document (map plain blocks)) is
+
+token_of_piece : (gap : Option ℕ) (token : Option (TokenKind × ℕ)) (piece : Piece) (kind : TokenKind) → Some piece ≡ piece_of gap token → piece.token ≡ Some kind → token ≡ Some (kind, piece.size)
+token_of_piece (Some size) token piece kind is has =
+    let same : piece ≡ record { token = None; size = size } = same_some piece (record { token = None; size = size }) is in
+    absurd (none_some (sym (ap (λ (p : Piece). p.token) same) ∙ has))
+token_of_piece None (Some token) piece kind is has =
+    let same : piece ≡ record { token = Some token.0; size = token.1 } = same_some piece (record { token = Some token.0; size = token.1 }) is in
+    let its : token.0 ≡ kind = same_some token.0 kind (sym (ap (λ (p : Piece). p.token) same) ∙ has) in
+    let size : token.1 ≡ piece.size = sym (ap (λ (p : Piece). p.size) same) in
+    rw (its, size) refl
+token_of_piece None None piece kind is has = absurd (none_some (sym is))
+
+-- a token that a piece of a range is, with its line
+pub token_placed : (document : List ℕ) (place to : ℕ) (piece : Piece) (kind : TokenKind) (line : ℕ) → 0 < piece.size → place + piece.size ≤ to → to ≤ length document
+    → Some piece ≡ piece_of (gap_at (slice_range document place to)) (token_at (slice_range document place to)) → piece.token ≡ Some kind → line ≡ line_number document place
+    → IsTokenOf document (record { kind = kind; line = line; start = place; end = place + piece.size })
+token_placed document place to piece kind line some before within is has line_is =
+    let size : place + piece.size - place ≡ piece.size = omega arith in
+    record {
+      ordered = omega (arith, some);
+      within = omega (arith, before, within);
+      line = line_is;
+      read = rw (size, ← taken_twice piece.size (to - place) (drop place document) (omega (arith, before)))
+          (token_alone (slice_range document place to) (kind, piece.size) (token_of_piece (gap_at (slice_range document place to)) (token_at (slice_range document place to)) piece kind is has));
+    }

@@ -5,4 +5,4 @@ pub mod FrontMatters
 pub mod LineViews
 pub mod Numbers
 pub mod Pieces
-pub mod Steps
+pub mod QuotedTexts

@@ -1,9 +1,11 @@
-ghost use Rattle.std.specs.Prelude.{◌≡◌, [], ◌∷◌, ◌++◌, ◌^◌, ◌<◌, ◌≤◌, IfOk, IfSome, OnOk, length};
-ghost use Rattle.policy_ast.specs.DocumentTokens.{block_tokens, joined};
+ghost use Rattle.std.specs.Prelude.{◌≡◌, [], ◌∷◌, ◌++◌, ◌^◌, ◌<◌, ◌≤◌, All, IfOk, IfSome, OnOk, length};
+ghost use Rattle.std.specs.Str.{IsUtf8};
+ghost use Rattle.policy_ast.specs.DocumentTokens.{IsTokenOf, block_tokens, joined};
 ghost use Rattle.policy_lex.specs.Answers.{IsAnswer};
 ghost use Rattle.policy_lex.specs.BlockViews.{IsBlock, plain};
 ghost use Rattle.policy_ast.specs.TokenForms.{gap_at, token_at};
 ghost use Rattle.policy_lex.specs.Pieces.{piece_of};
+ghost use Rattle.policy_lex.specs.QuotedTexts.{HoldsText};
 
 use crate::LexFault;
 use crate::blocks::Block;
@@ -23,9 +25,12 @@ pub fn with_block_tokens(
     tokens: Items<Token>,
 ) -> Result<Items<Token>, LexFault>
     requires short { length document.now < 2 ^ 32 }
+    requires utf8 { IsUtf8 document.now }
     requires block { IsBlock document.now (length tokens) block }
+    requires slices { All (IsTokenOf document.now) tokens }
     ensures answer { IsAnswer (joined tokens (block_tokens document.now (plain block))) result }
     ensures few { IfOk result (λ all. length all ≤ block.to) }
+    ensures slices { IfOk result (λ all. All (IsTokenOf document.now) all) }
 {
     let mut tokens = tokens;
     let mut place = block.from;
@@ -70,7 +75,8 @@ struct Piece {
 
 /// The token that bytes begin with, or what stands between tokens.
 fn piece_at(alloc: Global, bytes: &[u8]) -> Result<Option<Piece>, NoMemory>
-    requires { 0 < length bytes.now }
+    requires some { 0 < length bytes.now }
+    requires text { HoldsText bytes.now }
     ensures piece { IfOk result (λ o. o ≡ piece_of (gap_at bytes.now) (token_at bytes.now)) }
     ensures some { IfOk result (λ o. IfSome o (λ piece. 0 < piece.size)) }
     ensures within { IfOk result (λ o. IfSome o (λ piece. piece.size ≤ length bytes.now)) }

@@ -1,6 +1,6 @@
 ghost use Rattle.std.specs.Prelude.{◌≡◌, ◌<◌, ◌≤◌, false, IfOk, IfSome, length};
 ghost use Rattle.policy_ast.specs.TokenForms.{quoted_at, text_from};
-ghost use Rattle.policy_lex.specs.Steps.{step_of};
+ghost use Rattle.policy_lex.specs.QuotedTexts.{HoldsText, step_of};
 
 use crate::prefix::behind;
 use base_bytes::{Bytes, NoMemory, Text};
@@ -10,6 +10,7 @@ use std::alloc::Global;
 /// The text in quotation marks that bytes begin with, and how many bytes it takes.
 #[tactic(auto, unfolding(policy_ast::specs::TokenForms::quoted_at))]
 pub fn quoted_at(alloc: Global, bytes: &[u8]) -> Result<Option<(TokenKind, usize)>, NoMemory>
+    requires { HoldsText bytes.now }
     ensures text { IfOk result (λ o. o ≡ quoted_at bytes.now) }
     ensures some { IfOk result (λ o. IfSome o (λ piece. 0 < piece.1)) }
     ensures within { IfOk result (λ o. IfSome o (λ piece. piece.1 ≤ length bytes.now)) }
@@ -22,7 +23,7 @@ pub fn quoted_at(alloc: Global, bytes: &[u8]) -> Result<Option<(TokenKind, usize
     };
     match Text::from_utf8(alloc, text.as_slice())? {
         Some(text) => Ok(Some((TokenKind::Quoted(text), size + 1))),
-        None => Ok(None),
+        None => unreachable!(),
     }
 }
 

@@ -1,5 +1,6 @@
 ghost use Rattle.std.specs.Prelude.{◌≡◌, ◌<◌, ◌≤◌, IfOk, IfSome, length};
 ghost use Rattle.policy_ast.specs.TokenForms.{token_at};
+ghost use Rattle.policy_lex.specs.QuotedTexts.{HoldsText};
 
 use crate::numbers::number_at;
 use crate::quoted::quoted_at;
@@ -11,7 +12,8 @@ use std::alloc::Global;
 
 /// The token that bytes begin with, and how many bytes it takes.
 pub fn token_at(alloc: Global, bytes: &[u8]) -> Result<Option<(TokenKind, usize)>, NoMemory>
-    requires { 0 < length bytes.now }
+    requires some { 0 < length bytes.now }
+    requires text { HoldsText bytes.now }
     ensures token { IfOk result (λ o. o ≡ token_at bytes.now) }
     ensures some { IfOk result (λ o. IfSome o (λ piece. 0 < piece.1)) }
     ensures within { IfOk result (λ o. IfSome o (λ piece. piece.1 ≤ length bytes.now)) }

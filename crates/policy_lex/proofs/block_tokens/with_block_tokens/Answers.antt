@@ -1,8 +1,10 @@
 use Rattle.std.proofs.Common.{◌<◌, ◌≤◌, ◌+◌, ◌-◌, length, take, drop, sym, ◌∙◌, arith, ap, Err, ℕ, length-take, length-drop}
+use Rattle.std.proofs.lemmas.List.Elements.{All-push}
 use Rattle.policy_ast.specs.DocumentFault.{BadToken}
-use Rattle.policy_ast.specs.DocumentTokens.{joined}
+use Rattle.policy_ast.specs.DocumentTokens.{IsTokenOf, joined}
 use Rattle.policy_lex.proofs.LineNumbers.{number_behind}
-use Rattle.policy_lex.proofs.TokenSteps.{few_more, joined_more, joined_none, tokens_bad, tokens_passed, tokens_past}
+use Rattle.policy_lex.proofs.TextUtf8.{text_in_utf8}
+use Rattle.policy_lex.proofs.TokenSteps.{few_more, token_placed, joined_more, joined_none, tokens_bad, tokens_passed, tokens_past}
 use Rattle.policy_lex.proofs.block_tokens.with_block_tokens.Goals as goal
 use Rattle.policy_lex.proofs.block_tokens.with_block_tokens.Goals.{in-Some-token+in_ok-push_token, in_default-token}
 
@@ -32,12 +34,16 @@ loop-place-preserved c =
             ∙ c.loop-place.invariant.left);
         line = line;
         few = rw (w.tokens-is, w.in_ok-push_token.ensures) (few_more c.loop-place.tokens _ place piece.size c.loop-place.invariant.few some);
+        slices = rw (w.tokens-is, w.in_ok-push_token.ensures)
+            (All-push (IsTokenOf document) c.loop-place.tokens _ c.loop-place.invariant.slices
+            (token_placed document place to piece w.in-Some-token.kind c.loop-place.line some before c.requires.block.within (sym c.in-Some.is ∙ c.in_ok-token.ensures.piece) w.in-Some-token.is c.loop-place.invariant.line));
         within = before;
       }
       | in_default-token w ↦ record {
         left = rw w.tokens-is (ap (joined c.loop-place.tokens) (sym (rw w.in_default-token.is at step)) ∙ c.loop-place.invariant.left);
         line = line;
         few = rw w.tokens-is (omega (arith, some, c.loop-place.invariant.few));
+        slices = rw w.tokens-is c.loop-place.invariant.slices;
         within = before;
       }
     ]
@@ -47,3 +53,6 @@ returns-clause-answer c =
     sym c.loop-place.invariant.left
     ∙ ap (joined c.loop-place.tokens) (tokens_past c.args.document.now c.loop-place.place c.args.block.to (omega arith))
     ∙ joined_none c.loop-place.tokens
+
+pub piece_at-requires-clause-text : goal.piece_at-requires-clause-text
+piece_at-requires-clause-text c = text_in_utf8 c.args.document.now c.loop-place.place c.args.block.to c.requires.utf8 (omega (arith, c.requires.block.within))

@@ -16,5 +16,6 @@ loop-block-preserved c =
       left = blocks_joined document c.loop-block.tokens c.in_ok-tokens.tokens (get_or blocks i (record { from = 0; to = 0; line = 0 })) (drop (i + 1) blocks) c.in_ok-tokens.ensures.answer
           ∙ ap (λ bs. joined c.loop-block.tokens (blocks_tokens document (map plain bs))) (sym here)
           ∙ c.loop-block.invariant.left;
+      slices = c.in_ok-tokens.ensures.slices;
       blocks = blocks_after document (length c.in_ok-tokens.tokens) _ (drop (i + 1) blocks) (length document) c.in_ok-tokens.ensures.few places.1;
     }
