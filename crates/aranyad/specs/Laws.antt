@@ -11,7 +11,7 @@ pub record HasOneReading (document : List ℕ) : Type 0 where
   pub some : (found : Option SmallPolicy) × IsReading document found
   pub one : (a b : Option SmallPolicy) → IsReading document a → IsReading document b → a ≡ b
 
--- words over files have one outcome, once it is said which tags are made
-pub record HasOneOutcome (tagged : Tagging) (at : Holding) (words : List (List ℕ)) : Type 0 where
-  pub some : (outcome : Outcome) × Runs tagged at words outcome
-  pub one : (a b : Outcome) → Runs tagged at words a → Runs tagged at words b → a ≡ b
+-- words over files have one outcome, once it is said which tags the envelope tells
+pub record HasOneOutcome (told : Option Tagging) (at : Holding) (words : List (List ℕ)) : Type 0 where
+  pub some : (outcome : Outcome) × Runs told at words outcome
+  pub one : (a b : Outcome) → Runs told at words a → Runs told at words b → a ≡ b

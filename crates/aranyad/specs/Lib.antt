@@ -1,6 +1,7 @@
 -- The definitions that the contracts of this crate cite.
 pub mod first
 pub mod Ending
+pub mod FailedReads
 pub mod Laws
 pub mod Modes
 pub mod Outcome

@@ -1,5 +1,5 @@
 -- Which words are read as which mode.
-use Rattle.std.specs.Prelude.{◌≡◌, ◌⊎◌, ℕ, ◌==◌, ◌&&◌, not, Bool, if◌then◌else◌, List, [], ◌∷◌, length, slice_index, codes, Option, Some, None}
+use Rattle.std.specs.Prelude.{ℕ, ◌==◌, ◌&&◌, not, Bool, if◌then◌else◌, List, [], ◌∷◌, length, slice_index, codes, Option, Some, None}
 use Rattle.std.specs.Str.{byte, bytes_eq}
 use Rattle.aranyad.specs.declared.mode.Mode.{Mode}
 use Rattle.aranyad.specs.declared.mode.Mode.TheVariants.{Run}
@@ -13,8 +13,3 @@ abbrev pub mode_of : List (List ℕ) → Option Mode
 mode_of (verb ∷ policy ∷ script ∷ []) =
     if bytes_eq verb (codes "run") && (is_file_name policy && is_file_name script) then Some (Run policy script None) else None
 mode_of other = None
-
--- the name of the latest failed read is that of a file that the words give
-abbrev pub NamesOne : Option Mode → Option (List ℕ) → Type 0
-NamesOne None last = ⊥
-NamesOne (Some (Run policy script store)) last = (last ≡ Some policy) ⊎ (last ≡ Some script)

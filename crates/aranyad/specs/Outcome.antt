@@ -1,11 +1,14 @@
 -- What a run of the program prints and how it ends: a function of the words, the files and the script's lines, once it is
 -- said which policy the document is.
-use Rattle.std.specs.Prelude.{◌≡◌, ℕ, nat_lt, if◌then◌else◌, List, [], ◌∷◌, length, codes, Option, Some, None, Result, Ok, Err, MatchResult}
+use Rattle.std.specs.Prelude.{◌≡◌, ℕ, nat_lt, if◌then◌else◌, List, [], ◌∷◌, length, codes, Option, Some, None, Result, Ok, Err, MatchResult, IfSome, ◌++◌}
 use Rattle.std.specs.List.{concat}
+use Rattle.std.specs.Option.{option_map}
 use Rattle.std.specs.Fmt.{decimal}
 use Rattle.std.specs.Io.KnownBytes.{append_known}
 use Rattle.sha2.specs.Sha256.{sha256}
 use Rattle.outside.specs.Files.{Holding}
+use Rattle.policy_ast.specs.DocumentFault.{DocumentFault, NotUtf8, NoFrontMatter, WrongVersion, OpenBlock, BadToken}
+use Rattle.policy_ast.specs.DocumentTokens.{Tokens, document_tokens}
 use Rattle.aranyad.specs.declared.mode.Mode.{Mode}
 use Rattle.aranyad.specs.declared.mode.Mode.TheVariants.{Run}
 use Rattle.aranyad.specs.declared.status.Status.{Status}
@@ -20,22 +23,22 @@ use Rattle.aranyad.specs.Modes.{mode_of}
 use Rattle.aranyad.specs.Ending.{ending_status}
 use Rattle.aranyad.specs.declared.ending.Ending.{Ending}
 use Rattle.aranyad.specs.declared.ending.Halt.{Halt}
+use Rattle.aranyad.specs.declared.ending.Halt.TheVariants as halt
+use Rattle.aranyad.specs.declared.first.policy.Item.{Item}
 use Rattle.aranyad.specs.Written.{WritesFront}
 
--- how a run ends, and the pieces that it writes, each whole before the next begins
+-- how a run ends, and the pieces that it writes, each whole before the next begins; the pieces are None where the run makes
+-- commands whose tags the envelope doesn't tell
 pub record Outcome : Type 0 where
   pub status : Status
-  pub pieces : List (List ℕ)
-
-abbrev pub text_of : Outcome → List ℕ
-text_of outcome = concat outcome.pieces
+  pub pieces : Option (List (List ℕ))
 
 -- an end with one line, and one with none
 abbrev pub refused : Status → List ℕ → Outcome
-refused end line = record { status = end; pieces = line ∷ [] }
+refused end line = record { status = end; pieces = Some (line ∷ []) }
 
 abbrev pub ended : Status → Outcome
-ended end = record { status = end; pieces = [] }
+ended end = record { status = end; pieces = Some [] }
 
 abbrev pub usage_line : List ℕ
 usage_line = codes "usage: aranyad check POLICY | run POLICY SCRIPT [--store DIR] | code POLICY | gen N | serve POLICY SCRIPT --rounds N\n"
@@ -51,51 +54,93 @@ abbrev pub limited : ℕ → Option (List ℕ) → Option (Option (List ℕ))
 limited limit None = None
 limited limit (Some file) = Some (if nat_lt limit (length file) then None else Some file)
 
-module _ (tagged : Tagging) (digest : List ℕ) (policy : SmallPolicy) where
+module _ (told : Option Tagging) (digest : List ℕ) (items : List Item) where
   -- the script's lines are run in order, or its first bad line is named
   abbrev pub lines_outcome : Result (List Line) ℕ → Outcome
-  lines_outcome (Ok lines) = record { status = status.Done; pieces = texts tagged digest policy.items [] lines }
+  lines_outcome (Ok lines) = record { status = status.Done; pieces = option_map (λ tagged. texts tagged digest items [] lines) told }
   lines_outcome (Err line) = refused status.ScriptRefused (concat (codes "script refused: line " ∷ decimal line ∷ codes "\n" ∷ []))
 
   abbrev pub script_outcome : Option (Option (List ℕ)) → Outcome
   script_outcome None = ended status.ReadFault
   script_outcome (Some None) = refused status.TooLarge (codes "too large: script\n")
-  script_outcome (Some (Some script)) = lines_outcome (script_of policy.items script)
+  script_outcome (Some (Some script)) = lines_outcome (script_of items script)
 
--- a document that is no small policy is refused, before the script is read
-abbrev pub reading_outcome : Tagging → List ℕ → Option (Option (List ℕ)) → Option SmallPolicy → Outcome
-reading_outcome tagged document script None = refused status.PolicyRefused (codes "policy refused: unbuilt\n")
-reading_outcome tagged document script (Some policy) = script_outcome tagged (sha256 document) policy script
+-- the line of a document that is refused at one of its lines
+abbrev pub policy_line : List ℕ → ℕ → List ℕ
+policy_line what line = concat (codes "policy refused: " ∷ what ∷ codes ", line " ∷ decimal line ∷ codes "\n" ∷ [])
 
--- a run over the policy's file and the script's
-abbrev pub RunsFiles : Tagging → Option (Option (List ℕ)) → Option (Option (List ℕ)) → Outcome → Type 0
-RunsFiles tagged None script outcome = outcome ≡ ended status.ReadFault
-RunsFiles tagged (Some None) script outcome = outcome ≡ refused status.TooLarge (codes "too large: policy\n")
-RunsFiles tagged (Some (Some document)) script outcome =
-    (found : Option SmallPolicy) × IsReading document found × (outcome ≡ reading_outcome tagged document script found)
+abbrev pub fault_line : DocumentFault → List ℕ
+fault_line (NotUtf8 line) = policy_line (codes "not utf-8") line
+fault_line NoFrontMatter = policy_line (codes "no front matter") 1
+fault_line (WrongVersion line) = policy_line (codes "wrong version") line
+fault_line (OpenBlock line) = policy_line (codes "open block") line
+fault_line (BadToken line) = policy_line (codes "bad token") line
 
-abbrev pub RunsMode : Tagging → Holding → Option Mode → Outcome → Type 0
-RunsMode tagged at None outcome = outcome ≡ refused status.Usage usage_line
-RunsMode tagged at (Some (Run policy script store)) outcome =
-    RunsFiles tagged (limited policy_limit (at policy)) (limited script_limit (at script)) outcome
+module _ (told : Option Tagging) where
+  -- a document that is no small policy is refused, before the script is read
+  abbrev pub reading_outcome : List ℕ → Option (Option (List ℕ)) → Option SmallPolicy → Outcome
+  reading_outcome document script None = refused status.PolicyRefused (codes "policy refused: unbuilt\n")
+  reading_outcome document script (Some policy) = script_outcome told (sha256 document) policy.items script
 
--- the outcome of a run of these words over these files
-abbrev pub Runs : Tagging → Holding → List (List ℕ) → Outcome → Type 0
-Runs tagged at words outcome = RunsMode tagged at (mode_of words) outcome
+  -- its tokens are judged before that
+  abbrev pub tokens_outcome : Tokens → List ℕ → Option (Option (List ℕ)) → Option SmallPolicy → Outcome
+  tokens_outcome (Err fault) document script found = refused status.PolicyRefused (fault_line fault)
+  tokens_outcome (Ok tokens) document script found = reading_outcome document script found
 
--- what was written where a run ended with a status: a front of the outcome's text where a device or memory failed, and
--- else the whole text, and then the status is the outcome's too
-abbrev pub Follows : Status → Outcome → Option (List ℕ) → Option (List ℕ) → Type 0
-Follows status.ReadFault outcome old new = WritesFront (text_of outcome) old new
-Follows status.WriteFault outcome old new = WritesFront (text_of outcome) old new
-Follows status.DiskFault outcome old new = WritesFront (text_of outcome) old new
-Follows status.SealFault outcome old new = WritesFront (text_of outcome) old new
-Follows status.NoMemory outcome old new = WritesFront (text_of outcome) old new
-Follows end outcome old new = (end ≡ outcome.status) × (new ≡ append_known old (text_of outcome))
+  -- a run over the policy's file and the script's
+  abbrev pub RunsFiles : Option (Option (List ℕ)) → Option (Option (List ℕ)) → Outcome → Type 0
+  RunsFiles None script outcome = outcome ≡ ended status.ReadFault
+  RunsFiles (Some None) script outcome = outcome ≡ refused status.TooLarge (codes "too large: policy\n")
+  RunsFiles (Some (Some document)) script outcome =
+      (found : Option SmallPolicy) × IsReading document found × (outcome ≡ tokens_outcome (document_tokens document) document script found)
 
--- the same of a part of the run, by how it ended
+  abbrev pub RunsMode : Holding → Option Mode → Outcome → Type 0
+  RunsMode at None outcome = outcome ≡ refused status.Usage usage_line
+  RunsMode at (Some (Run policy script store)) outcome =
+      RunsFiles (limited policy_limit (at policy)) (limited script_limit (at script)) outcome
+
+  -- the outcome of a run of these words over these files, with the tags that the envelope tells
+  abbrev pub Runs : Holding → List (List ℕ) → Outcome → Type 0
+  Runs at words outcome = RunsMode at (mode_of words) outcome
+
+-- the first pieces were written whole, and nothing of those that are left
+pub record WritesUpTo (pieces left : List (List ℕ)) (old new : Option (List ℕ)) : Type 0 where
+  pub done : List (List ℕ)
+  pub whole : done ++ left ≡ pieces
+  pub added : new ≡ append_known old (concat done)
+
+-- what was written where memory was wanting: whole pieces
+pub record StopsBetween (pieces : List (List ℕ)) (old new : Option (List ℕ)) : Type 0 where
+  pub left : List (List ℕ)
+  pub so_far : WritesUpTo pieces left old new
+
+-- what was written where a seal failed: all pieces before that of one of the lines
+pub record StopsAtLine (pieces : List (List ℕ)) (old new : Option (List ℕ)) : Type 0 where
+  pub next : List ℕ
+  pub left : List (List ℕ)
+  pub so_far : WritesUpTo pieces (next ∷ left) old new
+
+-- the whole output, and then the status is the outcome's too
+pub record Ends (status : Status) (outcome : Outcome) (old new : Option (List ℕ)) : Type 0 where
+  pub end : status ≡ outcome.status
+  pub whole : IfSome outcome.pieces (λ pieces. new ≡ append_known old (concat pieces))
+
+-- what a run owes that was halted. A failed read comes before the first write, and a seal is asked for by lines alone.
+abbrev pub Halts : Halt → Outcome → Option (List ℕ) → Option (List ℕ) → Type 0
+Halts halt.Read outcome old new = new ≡ old
+Halts halt.Write outcome old new = IfSome outcome.pieces (λ pieces. WritesFront (concat pieces) old new)
+Halts halt.Seal outcome old new = (outcome.status ≡ status.Done) × IfSome outcome.pieces (λ pieces. StopsAtLine pieces old new)
+Halts halt.Memory outcome old new = IfSome outcome.pieces (λ pieces. StopsBetween pieces old new)
+
+-- the same of how a run ended
 abbrev pub RunsTo : Result Ending Halt → Outcome → Option (List ℕ) → Option (List ℕ) → Type 0
 RunsTo result outcome old new =
-    MatchResult result
-    (λ ending. (ending_status ending ≡ outcome.status) × (new ≡ append_known old (text_of outcome)))
-    (λ _. WritesFront (text_of outcome) old new)
+    MatchResult result (λ ending. Ends (ending_status ending) outcome old new) (λ halt. Halts halt outcome old new)
+
+-- the same of the status that stands for it; no disk is written yet, and no journal read
+abbrev pub Follows : Status → Outcome → Option (List ℕ) → Option (List ℕ) → Type 0
+Follows status.ReadFault = Halts halt.Read
+Follows status.WriteFault = Halts halt.Write
+Follows status.SealFault = Halts halt.Seal
+Follows status.NoMemory = Halts halt.Memory
+Follows end = Ends end

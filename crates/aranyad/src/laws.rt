@@ -1,4 +1,4 @@
-ghost use Rattle.std.specs.Prelude.{ℕ, List};
+ghost use Rattle.std.specs.Prelude.{ℕ, List, Option};
 ghost use Rattle.outside.specs.Files.{Holding};
 ghost use Rattle.aranyad.specs.Laws.{HasOneOutcome, HasOneReading};
 ghost use Rattle.aranyad.specs.first.Acting.{Tagging};
@@ -8,7 +8,7 @@ pub fn documents_have_one_reading()
     ensures { (document : List ℕ) → HasOneReading document }
 {}
 
-/// All words over all files have one outcome: what the top call is held to is a function of them and of the tags.
+/// All words over all files have one outcome: what the top call is held to is a function of them and of the tags that are told.
 pub fn words_have_one_outcome()
-    ensures { (tagged : Tagging) (at : Holding) (words : List (List ℕ)) → HasOneOutcome tagged at words }
+    ensures { (told : Option Tagging) (at : Holding) (words : List (List ℕ)) → HasOneOutcome told at words }
 {}

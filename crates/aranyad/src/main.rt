@@ -8,6 +8,7 @@ mod ending;
 mod first;
 pub mod laws;
 mod mode;
+mod refusal;
 mod run;
 mod run_command;
 mod stages;

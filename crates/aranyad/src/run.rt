@@ -1,8 +1,9 @@
-ghost use Rattle.std.specs.Prelude.{◌≡◌, ◌≢◌, Ok, ◌<◌, ◌^◌, [], ◌∷◌, ◌++◌, Some, IsTrue, IfOk, IfSome, codes};
+ghost use Rattle.std.specs.Prelude.{◌≡◌, ◌≢◌, Ok, ◌<◌, ◌^◌, [], ◌∷◌, ◌++◌, Some, IsTrue, IfOk, IfSome, OnOk, codes, ◌≤◌, length};
 ghost use Rattle.std.specs.List.{concat};
 ghost use Rattle.std.specs.Fmt.{decimal};
+ghost use Rattle.std.specs.Io.KnownBytes.{append_known};
 ghost use Rattle.aranyad.specs.Ending.{HaltsWithCause, LinesHalt, NamesFile, ReadHalts, WriteHalts, counts, ending_status};
-ghost use Rattle.aranyad.specs.Outcome.{RunsTo, limited, refused, script_limit, script_outcome};
+ghost use Rattle.aranyad.specs.Outcome.{RunsTo, limited, lines_outcome, refused, script_outcome};
 ghost use Rattle.aranyad.specs.declared.ending.Ending.TheVariants as ending;
 ghost use Rattle.aranyad.specs.declared.status.Status.TheVariants as status;
 ghost use Rattle.aranyad.specs.Written.{Writes};
@@ -30,6 +31,7 @@ pub fn read_limited<F: Files>(
 ) -> Result<Option<Bytes>, Halt>
     requires { limit < 2 ^ 32 }
     ensures found { IfOk result (λ found. IfSome (F.holds files.old) (λ at. limited limit (at name) ≡ Some found)) }
+    ensures short { IfOk result (λ found. IfSome found (λ bytes. length bytes ≤ limit)) }
     ensures holds { F.holds files.new ≡ F.holds files.old }
     ensures cause { ReadHalts name (F.faults files.old) (F.faults files.new) (F.last files.new) result }
 {
@@ -48,8 +50,9 @@ pub fn read_limited<F: Files>(
 
 /// Writes the line of a refusal, its line feed with it, and answers the ending.
 pub fn refuse<K: Sink>(out: &mut K, ending: Ending, line: &[u8]) -> Result<Ending, Halt>
-    ensures run { RunsTo result (record { status = ending_status ending; pieces = line.now ∷ [] }) (K.written out.old) (K.written out.new) }
+    ensures run { RunsTo result (refused (ending_status ending) line.now) (K.written out.old) (K.written out.new) }
     ensures ending { IfOk result (λ end. end ≡ ending) }
+    ensures line { OnOk result (K.written out.new ≡ append_known (K.written out.old) line.now) }
     ensures cause { WriteHalts (K.faults out.old) (K.faults out.new) result }
 {
     match write_all(out, line) {
@@ -74,9 +77,10 @@ fn run_lines<E: Envelope, K: Sink>(
     lines: &[Line],
     env: &mut E,
     out: &mut K,
-) -> Result<(), Halt>
+) -> Result<Ending, Halt>
     requires { IsTrue (is_sound items.now) }
-    ensures written { IfSome E.tag_of (λ tagged. Writes result (concat (texts tagged digest.now items.now [] lines.now)) (K.written out.old) (K.written out.new)) }
+    ensures run { RunsTo result (lines_outcome E.tag_of digest.now items.now (Ok lines.now)) (K.written out.old) (K.written out.new) }
+    ensures done { IfOk result (λ end. end ≡ ending.Done) }
     ensures cause { LinesHalt (E.faults env.old) (E.faults env.new) (K.faults out.old) (K.faults out.new) result }
 {
     let mut replica = Replica {
@@ -84,17 +88,19 @@ fn run_lines<E: Envelope, K: Sink>(
         rows: Items::new(alloc),
     };
     for line in lines {
-        let text = step(alloc, digest, items, &mut replica, line, env)?;
+        let text = match step(alloc, digest, items, &mut replica, line, env) {
+            Ok(text) => text,
+            Err(stop) => return Err(Halt::from(stop)),
+        };
         match write_all(out, text.as_slice()) {
             Ok(()) => {}
             Err(_) => return Err(Halt::Write),
         }
     }
-    Ok(())
+    Ok(Ending::Done)
 }
 
 /// Runs a script that was read up to its limit, under a policy whose document has this digest.
-#[tactic(auto, using(crate::proofs::Pieces::front_of_none))]
 pub fn run_bytes<E: Envelope, K: Sink>(
     alloc: Global,
     digest: &Id,
@@ -104,7 +110,7 @@ pub fn run_bytes<E: Envelope, K: Sink>(
     out: &mut K,
 ) -> Result<Ending, Halt>
     requires { IsTrue (is_sound policy.now.items) }
-    ensures run { IfSome E.tag_of (λ tagged. RunsTo result (script_outcome tagged digest.now policy.now (Some script)) (K.written out.old) (K.written out.new)) }
+    ensures run { RunsTo result (script_outcome E.tag_of digest.now policy.now.items (Some script)) (K.written out.old) (K.written out.new) }
     ensures no_usage { result ≢ Ok ending.Usage }
     ensures cause { LinesHalt (E.faults env.old) (E.faults env.new) (K.faults out.old) (K.faults out.new) result }
 {
@@ -114,17 +120,7 @@ pub fn run_bytes<E: Envelope, K: Sink>(
     };
     let items = policy.items.as_slice();
     match read_script(alloc, items, script.as_slice()) {
-        Ok(Script::Lines(lines)) => match run_lines(
-            alloc,
-            digest,
-            items,
-            lines.as_slice(),
-            env,
-            out,
-        ) {
-            Ok(()) => Ok(Ending::Done),
-            Err(halt) => Err(halt),
-        },
+        Ok(Script::Lines(lines)) => run_lines(alloc, digest, items, lines.as_slice(), env, out),
         Ok(Script::Refused(line)) => match refused_line(alloc, line) {
             Ok(text) => refuse(out, Ending::ScriptRefused, text.as_slice()),
             Err(NoMemory) => Err(Halt::Memory),

@@ -1,8 +1,10 @@
 ghost use Rattle.std.specs.Prelude.{◌≡◌, ◌≢◌, ◌⊎◌, None, Some, Ok, Err, IfSome, vec_len};
+ghost use Rattle.std.specs.Io.KnownBytes.{append_known};
 ghost use Rattle.outside.specs.Causes.{Rose};
 ghost use Rattle.aranyad.specs.Ending.{HaltsWithCause, counts};
-ghost use Rattle.aranyad.specs.Modes.{NamesOne, mode_of};
-ghost use Rattle.aranyad.specs.Outcome.{Follows, Outcome, Runs, RunsMode, RunsTo};
+ghost use Rattle.aranyad.specs.FailedReads.{ReadFails};
+ghost use Rattle.aranyad.specs.Modes.{mode_of};
+ghost use Rattle.aranyad.specs.Outcome.{Follows, Outcome, Runs, RunsMode, RunsTo, usage_line};
 ghost use Rattle.aranyad.specs.declared.ending.Ending.TheVariants as ending;
 ghost use Rattle.aranyad.specs.declared.ending.Halt.TheVariants as halt;
 
@@ -28,11 +30,12 @@ fn run_mode<F: Files, E: Envelope, K: Sink>(
     env: &mut E,
     out: &mut K,
 ) -> Result<Ending, Halt>
-    ensures run { IfSome (F.holds files.old) (λ at. IfSome E.tag_of (λ tagged. (outcome : Outcome) → RunsMode tagged at (Some mode) outcome →
-        RunsTo result outcome (K.written out.old) (K.written out.new))) }
+    ensures run { IfSome (F.holds files.old) (λ at. (outcome : Outcome) → RunsMode E.tag_of at (Some mode) outcome →
+        RunsTo result outcome (K.written out.old) (K.written out.new)) }
     ensures cause { HaltsWithCause (counts (F.faults files.old) (E.faults env.old) (K.faults out.old)) (counts (F.faults files.new) (E.faults env.new) (K.faults out.new)) result }
     ensures no_usage { result ≢ Ok ending.Usage }
-    ensures name { result ≡ Err halt.Read → NamesOne (Some mode) (F.last files.new) }
+    ensures name { result ≡ Err halt.Read → ReadFails (F.holds files.old) (Some mode) (F.last files.new) }
+    ensures nothing { result ≡ Err halt.Read → K.written out.new ≡ K.written out.old }
 {
     let Mode::Run(policy, script, _store) = mode;
     run_files(alloc, policy, script, files, env, out)
@@ -46,12 +49,14 @@ fn run_words<F: Files, E: Envelope, K: Sink>(
     env: &mut E,
     out: &mut K,
 ) -> Result<Ending, Halt>
-    ensures run { IfSome (F.holds files.old) (λ at. IfSome E.tag_of (λ tagged. (outcome : Outcome) → Runs tagged at words.now outcome →
-        RunsTo result outcome (K.written out.old) (K.written out.new))) }
+    ensures run { IfSome (F.holds files.old) (λ at. (outcome : Outcome) → Runs E.tag_of at words.now outcome →
+        RunsTo result outcome (K.written out.old) (K.written out.new)) }
     ensures cause { HaltsWithCause (counts (F.faults files.old) (E.faults env.old) (K.faults out.old)) (counts (F.faults files.new) (E.faults env.new) (K.faults out.new)) result }
     ensures usage { result ≡ Ok ending.Usage → mode_of words.now ≡ None }
     ensures no_mode { mode_of words.now ≡ None → (result ≡ Ok ending.Usage) ⊎ (result ≡ Err halt.Write) }
-    ensures name { result ≡ Err halt.Read → NamesOne (mode_of words.now) (F.last files.new) }
+    ensures name { result ≡ Err halt.Read → ReadFails (F.holds files.old) (mode_of words.now) (F.last files.new) }
+    ensures nothing { result ≡ Err halt.Read → K.written out.new ≡ K.written out.old }
+    ensures line { result ≡ Ok ending.Usage → K.written out.new ≡ append_known (K.written out.old) usage_line }
 {
     match choose(alloc, words) {
         Ok(mode) => run_mode(alloc, mode, files, env, out),
@@ -73,17 +78,19 @@ pub fn run_command<F: Files, D: Disk, E: Envelope, K: Sink>(
     out: &mut K,
 ) -> Status
     requires { vec_len disks.old ≡ 8 }
-    ensures run { IfSome (F.holds files.old) (λ at. IfSome E.tag_of (λ tagged. (outcome : Outcome) → Runs tagged at words.now outcome →
-        Follows result outcome (K.written out.old) (K.written out.new))) }
+    ensures run { IfSome (F.holds files.old) (λ at. (outcome : Outcome) → Runs E.tag_of at words.now outcome →
+        Follows result outcome (K.written out.old) (K.written out.new)) }
     ensures disks { disks.new.items ≡ disks.old.items }
     // Where no device failed, the outcome's end is reached, or memory is wanting.
     ensures complete { ¬ Rose (F.faults files.old) (F.faults files.new) → ¬ Rose (E.faults env.old) (E.faults env.new) → ¬ Rose (K.faults out.old) (K.faults out.new) →
-        IfSome (F.holds files.old) (λ at. IfSome E.tag_of (λ tagged. (outcome : Outcome) → Runs tagged at words.now outcome →
-        (result ≡ outcome.status) ⊎ (result ≡ Status.NoMemory))) }
+        IfSome (F.holds files.old) (λ at. (outcome : Outcome) → Runs E.tag_of at words.now outcome →
+        (result ≡ outcome.status) ⊎ (result ≡ Status.NoMemory)) }
     ensures usage { result ≡ Status.Usage → mode_of words.now ≡ None }
     ensures no_mode { mode_of words.now ≡ None → (result ≡ Status.Usage) ⊎ (result ≡ Status.WriteFault) }
+    ensures usage_line { result ≡ Status.Usage → K.written out.new ≡ append_known (K.written out.old) usage_line }
     ensures read { result ≡ Status.ReadFault → Rose (F.faults files.old) (F.faults files.new) }
-    ensures name { result ≡ Status.ReadFault → NamesOne (mode_of words.now) (F.last files.new) }
+    ensures name { result ≡ Status.ReadFault → ReadFails (F.holds files.old) (mode_of words.now) (F.last files.new) }
+    ensures nothing { result ≡ Status.ReadFault → K.written out.new ≡ K.written out.old }
     ensures write { result ≡ Status.WriteFault → Rose (K.faults out.old) (K.faults out.new) }
     ensures seal { result ≡ Status.SealFault → Rose (E.faults env.old) (E.faults env.new) }
     ensures no_disk { result ≢ Status.DiskFault }

@@ -1,68 +1,79 @@
+// Tables of runs of `run_command` on the objects in memory.
+mod devices;
+mod documents;
+mod limits;
+mod narrow_sink;
+mod rows;
+mod scripts;
+mod words;
+
 use crate::run_command::run_command;
+use crate::tests::narrow_sink::NarrowSink;
+use crate::tests::rows::{FIRST, Row};
 use base_bytes::{Bytes, NoMemory, Text};
 use outside::{ListEnvelope, MemoryFiles, MemorySink};
 use std::alloc::Global;
 use std::process::Abort;
 use std::test::*;
 
-const POLICY: &str =
-    "---\npolicy-version: 2\n---\n```policy\nfact Item[n int]=>{by id}\neffect Added { n int }\ncommand Start { attributes { init: true } fields { } seal { return envelope::do_seal(serialize(this)) } open { return deserialize(envelope::do_open(envelope)) } policy { finish { } } }\ncommand Put { fields { n int } seal { return envelope::do_seal(serialize(this)) } open { return deserialize(envelope::do_open(envelope)) }\n  policy { check this.n > 0 let who = envelope::author_id(envelope)\n    finish { create Item[n: this.n]=>{by: who} emit Added { n: this.n } } } }\naction start() { publish Start { } }\naction put(n int) { publish Put { n: n } }\n```\n";
-
-const SCRIPT: &str = "replica a\ninit a start()\nact a put(7)\nfacts a\n";
-
-const TEXT: &str =
-    "replica a holds 0\ninit a: published 1, merges 0, cut 0, entries 1\nact a: published 1, merges 0, cut 1, entries 1\nfacts a: 1\n  Item[n: 7]=>{by: id:58f468f820d490d5fadd64f8a6425a391cd001765dc4edd9dff0b5f3fadc4a96}\n";
-
-// A script over a policy, with the numbers of the writes and of the seals that fail, and what must come of it.
-#[derive(Clone, Copy)]
-struct Row {
-    name: &'static str,
-    policy: &'static str,
-    script: &'static str,
-    failing_write: u64,
-    failing_seal: u64,
-    status: u8,
-    text: &'static str,
+// A text whose last space is repeated until there are so many bytes.
+fn filled(alloc: Global, text: &str, length: usize) -> Result<Bytes, NoMemory> {
+    let text = text.as_bytes();
+    let place = text.iter().rposition(|byte| *byte == b' ').unwrap_or(0);
+    let (front, rest) = text.split_at(place);
+    let mut bytes = Bytes::from_slice(alloc, front)?;
+    bytes.extend(vec![in alloc; b' '; length.saturating_sub(text.len())]?.as_slice())?;
+    bytes.extend(rest)?;
+    Ok(bytes)
 }
 
-fn text(alloc: Global, text: &str) -> Result<Text, NoMemory> {
-    Text::from_slice(alloc, text)
-}
-
-fn numbers(alloc: Global, number: u64) -> Result<Vec<u64>, NoMemory> {
+// The calls that are to fail, of which there is at most one.
+fn failing(alloc: Global, number: u64) -> Result<Vec<u64>, NoMemory> {
     let mut numbers = Vec::new(alloc);
     numbers.push(number)?;
     Ok(numbers)
 }
 
-fn words(alloc: Global) -> Result<Vec<Text>, NoMemory> {
+fn row_words(alloc: Global, row: &Row) -> Result<Vec<Text>, NoMemory> {
     let mut words = Vec::new(alloc);
-    words.push(text(alloc, "run")?)?;
-    words.push(text(alloc, "policy")?)?;
-    words.push(text(alloc, "script")?)?;
+    for word in row.words {
+        words.push(Text::from_slice(alloc, word)?)?;
+    }
     Ok(words)
 }
 
-fn files(alloc: Global, row: &Row) -> Result<MemoryFiles, NoMemory> {
+fn row_files(alloc: Global, row: &Row) -> Result<MemoryFiles, NoMemory> {
     let mut files = Vec::new(alloc);
-    files.push((
-        text(alloc, "policy")?,
-        Bytes::from_slice(alloc, row.policy.as_bytes())?,
-    ))?;
-    files.push((
-        text(alloc, "script")?,
-        Bytes::from_slice(alloc, row.script.as_bytes())?,
-    ))?;
-    Ok(MemoryFiles::new(alloc, files, Vec::new(alloc)))
+    let mut policy = filled(alloc, row.policy, row.policy_length)?;
+    policy.extend(row.policy_end)?;
+    files.push((Text::from_slice(alloc, "policy")?, policy))?;
+    let script = filled(alloc, row.script, row.script_length)?;
+    files.push((Text::from_slice(alloc, "script")?, script))?;
+    Ok(MemoryFiles::new(alloc, files, failing(alloc, row.failing_read)?))
 }
 
-// Runs a row, and asserts its status and its text.
+// Whether bytes are these pieces, one behind the other.
+fn are_pieces(bytes: &[u8], pieces: &[&str]) -> bool {
+    let mut rest = bytes;
+    for piece in pieces {
+        match rest.strip_prefix(piece.as_bytes()) {
+            Some(behind) => rest = behind,
+            None => return false,
+        }
+    }
+    rest.is_empty()
+}
+
+// Makes the run of a row, and asserts its status and all that it wrote.
 fn assert_row<R: Abort>(rt: &R, alloc: Global, row: &Row) -> Result<(), NoMemory> {
-    let words = words(alloc)?;
-    let mut files = files(alloc, row)?;
+    let words = row_words(alloc, row)?;
+    let mut files = row_files(alloc, row)?;
     let mut disks = crate::empty_disks(alloc)?;
-    let mut env = ListEnvelope::new(alloc, numbers(alloc, row.failing_seal)?);
-    let mut out = MemorySink::new(alloc, numbers(alloc, row.failing_write)?);
+    let mut env = ListEnvelope::new(alloc, failing(alloc, row.failing_seal)?);
+    let mut out = NarrowSink {
+        sink: MemorySink::new(alloc, failing(alloc, row.failing_write)?),
+        most: row.taken,
+    };
     let status = run_command(
         alloc,
         words.as_slice(),
@@ -78,108 +89,82 @@ fn assert_row<R: Abort>(rt: &R, alloc: Global, row: &Row) -> Result<(), NoMemory
         status.number()
     );
     assert!(rt;
-        out.bytes() == row.text.as_bytes(),
+        are_pieces(out.sink.bytes(), row.text),
         "{}: another text",
         row.name
     );
     Ok(())
 }
 
-const WHOLE: Row = Row {
-    name: "the whole script",
-    policy: POLICY,
-    script: SCRIPT,
-    failing_write: 0,
-    failing_seal: 0,
-    status: 0,
-    text: TEXT,
-};
-
-const EMPTY: Row = Row {
-    name: "an empty script",
-    policy: POLICY,
-    script: "",
-    failing_write: 0,
-    failing_seal: 0,
-    status: 0,
-    text: "",
-};
-
-const UNCHECKED: Row = Row {
-    name: "a check that fails",
-    policy: POLICY,
-    script: "  replica  a\r\ninit a start ( )\nact a put( -0 )\nfacts a",
-    failing_write: 0,
-    failing_seal: 0,
-    status: 0,
-    text: "replica a holds 0\ninit a: published 1, merges 0, cut 0, entries 1\nact a: refused command Put: check\nfacts a: 0\n",
-};
-
-const UNBUILT: Row = Row {
-    name: "no small policy",
-    policy: "x\n",
-    script: SCRIPT,
-    failing_write: 0,
-    failing_seal: 0,
-    status: 1,
-    text: "policy refused: unbuilt\n",
-};
-
-const OTHER_REPLICA: Row = Row {
-    name: "a line for another replica",
-    policy: POLICY,
-    script: "replica a\ninit b start()\n",
-    failing_write: 0,
-    failing_seal: 0,
-    status: 3,
-    text: "script refused: line 2\n",
-};
-
-const FIFTH_LINE: Row = Row {
-    name: "a fifth line",
-    policy: POLICY,
-    script: "replica a\ninit a start()\nact a put(7)\nfacts a\nfacts a\n",
-    failing_write: 0,
-    failing_seal: 0,
-    status: 3,
-    text: "script refused: line 5\n",
-};
-
-const FAILED_WRITE: Row = Row {
-    name: "the second write fails",
-    policy: POLICY,
-    script: SCRIPT,
-    failing_write: 2,
-    failing_seal: 0,
-    status: 5,
-    text: "replica a holds 0\n",
-};
-
-const FAILED_SEAL: Row = Row {
-    name: "the second seal fails",
-    policy: POLICY,
-    script: SCRIPT,
-    failing_write: 0,
-    failing_seal: 2,
-    status: 10,
-    text: "replica a holds 0\ninit a: published 1, merges 0, cut 0, entries 1\n",
-};
-
-const ROWS: [Row; 8] = [
-    WHOLE,
-    EMPTY,
-    UNCHECKED,
-    UNBUILT,
-    OTHER_REPLICA,
-    FIFTH_LINE,
-    FAILED_WRITE,
-    FAILED_SEAL,
-];
+fn assert_rows<R: Abort>(rt: &R, alloc: Global, rows: &[Row]) -> Result<(), NoMemory> {
+    for row in rows {
+        assert_row(rt, alloc, row)?;
+    }
+    Ok(())
+}
 
 #[test]
-fn runs_small_scripts(rt: HostRuntime) -> Result<(), Fail> {
-    for row in ROWS {
+fn other_words_print_the_usage_line(rt: HostRuntime) -> Result<(), Fail> {
+    for (name, words) in words::OTHERS {
+        let row = Row {
+            name,
+            words,
+            status: 2,
+            text: words::USAGE,
+            ..FIRST
+        };
         assert_row(&rt, rt.alloc(), &row)?;
     }
+    Ok(())
+}
+
+#[test]
+fn documents_are_refused_with_their_line(rt: HostRuntime) -> Result<(), Fail> {
+    for (name, policy, policy_end, text) in documents::REFUSED {
+        let row = Row {
+            name,
+            policy,
+            policy_end,
+            status: 1,
+            text,
+            ..FIRST
+        };
+        assert_row(&rt, rt.alloc(), &row)?;
+    }
+    Ok(())
+}
+
+#[test]
+fn scripts_run_or_are_refused(rt: HostRuntime) -> Result<(), Fail> {
+    assert_rows(&rt, rt.alloc(), &scripts::ROWS)?;
+    Ok(())
+}
+
+#[test]
+fn files_are_judged_in_order_up_to_their_limits(rt: HostRuntime) -> Result<(), Fail> {
+    assert_rows(&rt, rt.alloc(), &limits::ROWS)?;
+    Ok(())
+}
+
+#[test]
+fn each_device_fails_in_turn(rt: HostRuntime) -> Result<(), Fail> {
+    for (name, failing_read, failing_write, failing_seal, status, text) in devices::FAILURES {
+        let row = Row {
+            name,
+            failing_read,
+            failing_write,
+            failing_seal,
+            status,
+            text,
+            ..FIRST
+        };
+        assert_row(&rt, rt.alloc(), &row)?;
+    }
+    Ok(())
+}
+
+#[test]
+fn a_narrow_sink_gets_the_whole_text(rt: HostRuntime) -> Result<(), Fail> {
+    assert_rows(&rt, rt.alloc(), &devices::NARROW)?;
     Ok(())
 }

@@ -1,21 +1,17 @@
-use Rattle.std.proofs.Common.{[], arith}
-use Rattle.std.specs.List.{concat}
-use Rattle.aranyad.specs.first.Running.{texts}
+use Rattle.std.proofs.Common.{arith}
 use Rattle.aranyad.proofs.LineTexts.{line_written, line_halted}
 use Rattle.aranyad.proofs.run.run_lines.Goals as goal
 
 pub loop-line-preserved : goal.loop-line-preserved
 loop-line-preserved g c = record {
   stands = c.step.ensures.stands;
-  written = line_written g.E.Envelope.tag_of c.args.digest.now c.args.items.now (λ tagged. concat (texts tagged c.args.digest.now c.args.items.now [] c.args.lines.now))
-      c.args.lines.now c.loop-line.line-index c.line-item.result c.loop-line.replica.commands _ c.in_ok-text.text _ _ _ c.loop-line-test.true c.line-item.is
-      c.loop-line.invariant.written c.in_ok-text.ensures.step (rw c.as_slice.ensures at c.in-Ok.ensures.written);
-  later_seals = omega (arith, c.loop-line.invariant.later_seals, c.in_ok-text.ensures.cause.later);
+  written = line_written c.args.digest.now c.args.items.now c.args.lines.now c.loop-line.line-index c.line-item.result c.loop-line.replica.commands _ c.in-Ok.text _ _ _
+      c.loop-line-test.true c.line-item.is g.E.Envelope.tag_of c.loop-line.invariant.written c.in-Ok.ensures.step (rw c.as_slice.ensures at c.in-Ok-write_all.ensures.written);
+  later_seals = omega (arith, c.loop-line.invariant.later_seals, c.step.ensures.cause.later);
   later_writes = omega (arith, c.loop-line.invariant.later_writes, c.write_all.ensures.cause.later);
 }
 
-pub returns-in-Err-clause-written : goal.returns-in-Err-clause-written
-returns-in-Err-clause-written g c =
-    line_halted g.E.Envelope.tag_of c.args.digest.now c.args.items.now (λ tagged. concat (texts tagged c.args.digest.now c.args.items.now [] c.args.lines.now))
-    c.args.lines.now c.loop-line.line-index c.line-item.result c.loop-line.replica.commands _ c.in_ok-text.text _ _ _ c.loop-line-test.true c.line-item.is
-    c.loop-line.invariant.written c.in_ok-text.ensures.step (rw c.as_slice.ensures at c.in-Err.ensures.written)
+pub returns-in-Err-write_all-clause-run : goal.returns-in-Err-write_all-clause-run
+returns-in-Err-write_all-clause-run g c =
+    line_halted c.args.digest.now c.args.items.now c.args.lines.now c.loop-line.line-index c.line-item.result c.loop-line.replica.commands _ c.in-Ok.text _ _ _
+    c.loop-line-test.true c.line-item.is g.E.Envelope.tag_of c.loop-line.invariant.written c.in-Ok.ensures.step (rw c.as_slice.ensures at c.in-Err-write_all.ensures.written)

@@ -1,21 +1,20 @@
 use Rattle.std.proofs.Common.{Err, ap}
 use Rattle.aranyad.specs.declared.ending.Ending.TheVariants as ending
-use Rattle.aranyad.specs.declared.ending.Halt.TheVariants as halt
-use Rattle.aranyad.proofs.Following.{refused_ends}
 use Rattle.aranyad.specs.Modes.{mode_of}
+use Rattle.aranyad.proofs.Following.{refused_ends}
 use Rattle.aranyad.proofs.Readings.{usage_runs}
-use Rattle.aranyad.proofs.Runs.{told_both, halted_at_once}
+use Rattle.aranyad.proofs.Runs.{told_all, wanting_at_once}
 use Rattle.aranyad.proofs.run_command.run_words.Goals as goal
 
 pub returns-in-Usage-clause-run : goal.returns-in-Usage-clause-run
 returns-in-Usage-clause-run g c =
-    told_both (g.F.Files.holds c.args.files.now) g.E.Envelope.tag_of _ (λ at tagged.
-    usage_runs tagged at (mode_of c.args.words.now) c.refuse.result _ _ (c.in-Err.ensures.usage (ap Err c.in-Usage.is))
+    told_all (g.F.Files.holds c.args.files.now) _ (λ at.
+    usage_runs g.E.Envelope.tag_of at (mode_of c.args.words.now) c.refuse.result _ _ (c.in-Err.ensures.usage (ap Err c.in-Usage.is))
     (rw c.as_bytes.ensures.value at c.refuse.ensures.run))
 
 pub returns-in-NoMemory-clause-run : goal.returns-in-NoMemory-clause-run
 returns-in-NoMemory-clause-run g c =
-    told_both (g.F.Files.holds c.args.files.now) g.E.Envelope.tag_of _ (λ at tagged outcome runs. halted_at_once outcome halt.Memory (g.K.Sink.written c.args.out.now))
+    told_all (g.F.Files.holds c.args.files.now) _ (λ at outcome runs. wanting_at_once outcome (g.K.Sink.written c.args.out.now))
 
 pub returns-in-Usage-clause-no_mode : goal.returns-in-Usage-clause-no_mode
 returns-in-Usage-clause-no_mode g c = λ none. refused_ends c.refuse.result ending.Usage _ _ c.refuse.ensures.ending c.refuse.ensures.cause

@@ -1,8 +1,9 @@
 use Rattle.aranyad.specs.Outcome.{limited, script_limit, script_outcome}
-use Rattle.aranyad.proofs.Runs.{told_both, halted_at_once}
+use Rattle.aranyad.proofs.Runs.{told_all, read_halted}
 use Rattle.aranyad.proofs.stages.run_script.Goals as goal
 
 pub returns-in-Err-clause-run : goal.returns-in-Err-clause-run
 returns-in-Err-clause-run g c =
-    told_both (g.F.Files.holds c.args.files.now) g.E.Envelope.tag_of _ (λ at tagged.
-    halted_at_once (script_outcome tagged c.args.digest.now c.args.policy.now (limited script_limit (at c.args.script))) c.in-Err.halt (g.K.Sink.written c.args.out.now))
+    told_all (g.F.Files.holds c.args.files.now) _ (λ at.
+    read_halted c.args.script _ _ _ c.in-Err.halt (script_outcome g.E.Envelope.tag_of c.args.digest.now c.args.policy.now.items (limited script_limit (at c.args.script)))
+    (g.K.Sink.written c.args.out.now) c.in-Err.ensures.cause)

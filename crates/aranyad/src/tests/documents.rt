@@ -1,0 +1,110 @@
+// Documents that are refused.
+
+/// Each with its name, its text, the bytes that stand behind the text, and what is printed.
+pub const REFUSED: [(&str, &str, &[u8], &[&str]); 17] = [
+    // Faults of a document and their lines.
+    (
+        "a byte that belongs to no character",
+        "---\npolicy-version: 2\n",
+        b"---\n\xff",
+        &["policy refused: not utf-8, line 4\n"],
+    ),
+    (
+        "no front matter",
+        "x\n",
+        b"",
+        &["policy refused: no front matter, line 1\n"],
+    ),
+    (
+        "an empty document",
+        "",
+        b"",
+        &["policy refused: no front matter, line 1\n"],
+    ),
+    (
+        "a front matter without an end",
+        "---\npolicy-version: 2\n",
+        b"",
+        &["policy refused: no front matter, line 1\n"],
+    ),
+    (
+        "a front matter without a version",
+        "---\nversion: 2\n---\n",
+        b"",
+        &["policy refused: no front matter, line 1\n"],
+    ),
+    (
+        "version 1",
+        "---\npolicy-version: 1\n---\n",
+        b"",
+        &["policy refused: wrong version, line 2\n"],
+    ),
+    (
+        "version 3",
+        "---\n\npolicy-version: 3\n---\n",
+        b"",
+        &["policy refused: wrong version, line 3\n"],
+    ),
+    (
+        "an open block",
+        "---\npolicy-version: 2\n---\n```policy\nenum A { X }\nenum B { Y }\nenum C { Z\n; }\n",
+        b"",
+        &["policy refused: open block, line 4\n"],
+    ),
+    (
+        "a bad token",
+        "---\npolicy-version: 2\n---\n```policy\nenum A { X }\nenum B { Y }\nenum C { Z\n; }\n```\n",
+        b"",
+        &["policy refused: bad token, line 8\n"],
+    ),
+    (
+        "a text that isn't ended",
+        "---\npolicy-version: 2\n---\n```policy\nlet a = \"x\n```\n",
+        b"",
+        &["policy refused: bad token, line 5\n"],
+    ),
+    (
+        "a comment that isn't ended",
+        "---\npolicy-version: 2\n---\n```policy\nuse a\n/* b\n```\n",
+        b"",
+        &["policy refused: bad token, line 6\n"],
+    ),
+    // The first fault in their order.
+    (
+        "no character before no front matter",
+        "x\n",
+        b"\xff",
+        &["policy refused: not utf-8, line 2\n"],
+    ),
+    (
+        "no front matter before an open block",
+        "```policy\n;\n",
+        b"",
+        &["policy refused: no front matter, line 1\n"],
+    ),
+    (
+        "a wrong version before an open block",
+        "---\npolicy-version: 1\n---\n```policy\n;\n",
+        b"",
+        &["policy refused: wrong version, line 2\n"],
+    ),
+    // Documents that have tokens.
+    (
+        "no block",
+        "---\npolicy-version: 2\n---\n",
+        b"",
+        &["policy refused: unbuilt\n"],
+    ),
+    (
+        "an enum",
+        "---\npolicy-version: 2\n---\n```policy\nenum A { X }\n```\n",
+        b"",
+        &["policy refused: unbuilt\n"],
+    ),
+    (
+        "tokens that begin no item",
+        "---\npolicy-version: 2\n---\n```policy\n: }\n```\n",
+        b"",
+        &["policy refused: unbuilt\n"],
+    ),
+];
