@@ -1,0 +1,2 @@
+-- Lemmas about the grammar.
+pub mod Samples
