@@ -9,4 +9,7 @@ pub mod ReadingExpressions
 pub mod ExpressionFacts
 pub mod Ends
 pub mod ExpressionLaws
+pub mod ReadingStatements
+pub mod StatementFacts
+pub mod StatementLaws
 pub mod Samples

@@ -1,8 +1,10 @@
 -- Before which tokens an expression may end.
 use Rattle.std.proofs.Common.{◌≡◌, ℕ, Bool, true, false, List, ◌∷◌, None, refl}
+use Rattle.policy_ast.specs.declared.expr.Comparison.{Comparison}
+use Rattle.policy_ast.specs.declared.expr.Comparison.TheVariants as comparison
 use Rattle.policy_ast.specs.declared.token.TokenKind.TheVariants as token
 use Rattle.policy_ast.specs.grammar.Expressions.{Place, conditional, operand, whole}
-use Rattle.policy_ast.specs.grammar.Fixed.{and, arrow, comparison_token, dot, open_brace, open_paren, or, path, word}
+use Rattle.policy_ast.specs.grammar.Fixed.{and, arrow, close_brace, close_bracket, close_paren, colon, comma, comparison_token, dot, open_brace, open_paren, or, path, word}
 use Rattle.policy_ast.specs.grammar.Parts.{Tokens}
 use Rattle.policy_ast.specs.Words.{is_name, is_reserved}
 use Rattle.policy_ast.proofs.grammar.FieldLaws.{not_word}
@@ -66,3 +68,42 @@ pub ends_before_brace : (ts : Tokens) → EndsWhole true (open_brace ∷ ts)
 ends_before_brace ts =
     let low : EndsComparison true (open_brace ∷ ts) = (refl, refl, (refl, (refl, refl, tt, (refl, tt)), tt)) in
     (refl, (refl, low, low), (refl, low, low))
+
+-- the tokens before which an expression of each kind ends
+pub before_close_brace : (ts : Tokens) → EndsWhole false (close_brace ∷ ts)
+before_close_brace ts = ends_whole false (close_brace ∷ ts) refl refl refl refl refl refl refl refl refl
+
+pub before_close_paren : (ts : Tokens) → EndsWhole false (close_paren ∷ ts)
+before_close_paren ts = ends_whole false (close_paren ∷ ts) refl refl refl refl refl refl refl refl refl
+
+pub before_comma : (ts : Tokens) → EndsWhole false (comma ∷ ts)
+before_comma ts = ends_whole false (comma ∷ ts) refl refl refl refl refl refl refl refl refl
+
+pub before_close_bracket : (ts : Tokens) → EndsWhole false (close_bracket ∷ ts)
+before_close_bracket ts = ends_whole false (close_bracket ∷ ts) refl refl refl refl refl refl refl refl refl
+
+pub before_colon : (ts : Tokens) → EndsWhole false (colon ∷ ts)
+before_colon ts = ends_whole false (colon ∷ ts) refl refl refl refl refl refl refl refl refl
+
+pub before_let : (ts : Tokens) → EndsWhole false (word "let" ∷ ts)
+before_let ts = ends_whole false (word "let" ∷ ts) refl refl refl refl refl refl refl refl refl
+
+pub before_or : (h : Bool) (ts : Tokens) → EndsAnd h (or ∷ ts)
+before_or h ts = let low : EndsComparison h (or ∷ ts) = ends_comparison h (or ∷ ts) refl refl refl refl refl refl refl in (refl, low, low)
+
+pub before_and : (h : Bool) (ts : Tokens) → EndsComparison h (and ∷ ts)
+before_and h ts = ends_comparison h (and ∷ ts) refl refl refl refl refl refl refl
+
+pub before_dot : (h : Bool) (ts : Tokens) → EndsPrimary h (dot ∷ ts)
+before_dot h ts = ends_primary h (dot ∷ ts) refl refl refl refl
+
+pub before_is : (h : Bool) (ts : Tokens) → EndsUnary h (word "is" ∷ ts)
+before_is h ts = (refl, ends_primary h (word "is" ∷ ts) refl refl refl refl, tt)
+
+pub before_comparison : (h : Bool) (op : Comparison) (ts : Tokens) → EndsUnary h (comparison_token op ∷ ts)
+before_comparison h comparison.Equal ts = (refl, ends_primary h _ refl refl refl refl, tt)
+before_comparison h comparison.NotEqual ts = (refl, ends_primary h _ refl refl refl refl, tt)
+before_comparison h comparison.Less ts = (refl, ends_primary h _ refl refl refl refl, tt)
+before_comparison h comparison.LessOrEqual ts = (refl, ends_primary h _ refl refl refl refl, tt)
+before_comparison h comparison.Greater ts = (refl, ends_primary h _ refl refl refl refl, tt)
+before_comparison h comparison.GreaterOrEqual ts = (refl, ends_primary h _ refl refl refl refl, tt)

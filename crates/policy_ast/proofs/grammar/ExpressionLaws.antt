@@ -31,7 +31,7 @@ use Rattle.policy_ast.specs.grammar.Forms as forms
 use Rattle.policy_ast.specs.grammar.Forms.{◌▸◌, ◌◂◌, ◌⊗◌, Chained, Empty, Listed, Made, Many, Node, Optional}
 use Rattle.policy_ast.specs.grammar.Parts.{Between, Tokens, joined, joint, made, part}
 use Rattle.policy_ast.specs.Words.{is_name, is_reserved}
-use Rattle.policy_ast.proofs.grammar.Ends.{Ends, NoBrace, EndsAnd, EndsComparison, EndsPattern, EndsPrimary, EndsUnary, EndsWhole, ends_before_brace, ends_comparison, ends_primary, ends_whole, no_brace}
+use Rattle.policy_ast.proofs.grammar.Ends.{Ends, NoBrace, EndsAnd, EndsComparison, EndsPattern, EndsPrimary, EndsUnary, EndsWhole, before_and, before_close_brace, before_close_bracket, before_close_paren, before_colon, before_comma, before_comparison, before_dot, before_is, before_let, before_or, ends_before_brace}
 use Rattle.policy_ast.proofs.grammar.ExpressionFacts.{bind_parts, comparison_parts, and_parts, expr_over_high, expr_within_parts, free_parts, let_parts, unary_parts}
 use Rattle.policy_ast.proofs.grammar.Facts.{AreParts, forward, is_open, not_after, unclosed}
 use Rattle.policy_ast.proofs.grammar.FieldLaws.{constant_finds, name_is_read, name_parts, name_then, named_then, not_word, number_is_read}
@@ -40,45 +40,6 @@ use Rattle.policy_ast.proofs.grammar.Loops.{chained_is_read, listed_is_read, man
 use Rattle.policy_ast.proofs.grammar.Reading.{Reader, after, before, behind, built, chained, chosen, listed, making, many, node_added, noded, nothing, on, operated, operator, optional, pair, paired, read_empty}
 use Rattle.policy_ast.proofs.grammar.ReadingExpressions.{and_over, arithmetic_over, arithmetics, bind_over, body_over, braced_over, compared_over, comparison_over, comparisons, conditional_over, count_over, counts, else_over, expr_over, free_over, free_value_over, keyword_over, let_over, name_over, or_over, pattern_over, presences, primary_over, read_expr, signs, tested_over, two_names_over, unary_over}
 use Rattle.policy_ast.proofs.grammar.ReadingFields.{named, read_constant, read_name, read_number}
-
--- the tokens before which an expression of each kind ends
-before_close_brace : (ts : Tokens) → EndsWhole false (close_brace ∷ ts)
-before_close_brace ts = ends_whole false (close_brace ∷ ts) refl refl refl refl refl refl refl refl refl
-
-before_close_paren : (ts : Tokens) → EndsWhole false (close_paren ∷ ts)
-before_close_paren ts = ends_whole false (close_paren ∷ ts) refl refl refl refl refl refl refl refl refl
-
-before_comma : (ts : Tokens) → EndsWhole false (comma ∷ ts)
-before_comma ts = ends_whole false (comma ∷ ts) refl refl refl refl refl refl refl refl refl
-
-before_close_bracket : (ts : Tokens) → EndsWhole false (close_bracket ∷ ts)
-before_close_bracket ts = ends_whole false (close_bracket ∷ ts) refl refl refl refl refl refl refl refl refl
-
-before_colon : (ts : Tokens) → EndsWhole false (colon ∷ ts)
-before_colon ts = ends_whole false (colon ∷ ts) refl refl refl refl refl refl refl refl refl
-
-before_let : (ts : Tokens) → EndsWhole false (word "let" ∷ ts)
-before_let ts = ends_whole false (word "let" ∷ ts) refl refl refl refl refl refl refl refl refl
-
-before_or : (h : Bool) (ts : Tokens) → EndsAnd h (or ∷ ts)
-before_or h ts = let low : EndsComparison h (or ∷ ts) = ends_comparison h (or ∷ ts) refl refl refl refl refl refl refl in (refl, low, low)
-
-before_and : (h : Bool) (ts : Tokens) → EndsComparison h (and ∷ ts)
-before_and h ts = ends_comparison h (and ∷ ts) refl refl refl refl refl refl refl
-
-before_dot : (h : Bool) (ts : Tokens) → EndsPrimary h (dot ∷ ts)
-before_dot h ts = ends_primary h (dot ∷ ts) refl refl refl refl
-
-before_is : (h : Bool) (ts : Tokens) → EndsUnary h (word "is" ∷ ts)
-before_is h ts = (refl, ends_primary h (word "is" ∷ ts) refl refl refl refl, tt)
-
-before_comparison : (h : Bool) (op : Comparison) (ts : Tokens) → EndsUnary h (comparison_token op ∷ ts)
-before_comparison h comparison.Equal ts = (refl, ends_primary h _ refl refl refl refl, tt)
-before_comparison h comparison.NotEqual ts = (refl, ends_primary h _ refl refl refl refl, tt)
-before_comparison h comparison.Less ts = (refl, ends_primary h _ refl refl refl refl, tt)
-before_comparison h comparison.LessOrEqual ts = (refl, ends_primary h _ refl refl refl refl, tt)
-before_comparison h comparison.Greater ts = (refl, ends_primary h _ refl refl refl refl, tt)
-before_comparison h comparison.GreaterOrEqual ts = (refl, ends_primary h _ refl refl refl refl, tt)
 
 -- an operator is seen where it stands
 comparison_here : (op : Comparison) (ts : Tokens) → operator comparison_token comparisons (comparison_token op ∷ ts) ≡ Some (op, ts)

@@ -14,7 +14,7 @@ use Rattle.policy_ast.proofs.grammar.Reading.{after, is_token}
 -- a symbol with which no part of a list begins
 abbrev pub is_closing : TokenKind → Bool
 is_closing (token.Symbol s) = (s == symbols.CLOSE_BRACE) || (s == symbols.CLOSE_BRACKET) || (s == symbols.CLOSE_PAREN) || (s == symbols.COLON)
-    || (s == symbols.QUESTION_MARK) || (s == symbols.OPEN_BRACE)
+    || (s == symbols.QUESTION_MARK) || (s == symbols.OPEN_BRACE) || (s == symbols.COMMA)
 is_closing _ = false
 
 abbrev pub is_open : Tokens → Bool

@@ -107,6 +107,9 @@ empty_is_read = record {
     empty_reads ts rest a forms.empty = refl
 
 module _ {A : Type 0} {X X' : Between A} {read : Reader A} {limit : ℕ} {End : Tokens → Type 0} (law : IsRead X X' read limit End) where
+  pub ends_before : (Other : Tokens → Type 0) → ((ts : Tokens) → Other ts → End ts) → IsRead X X' read limit Other
+  ends_before Other then_ends = record { reads = λ ts rest a x low ends. law.reads ts rest a x low (then_ends rest ends); finds = law.finds; }
+
   pub behind_is_read : (t : TokenKind) → IsRead (t ▸ X) (t ▸ X') (behind t read) limit End
   behind_is_read t = record {
     reads = reads;
