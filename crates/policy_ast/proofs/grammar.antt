@@ -12,4 +12,7 @@ pub mod ExpressionLaws
 pub mod ReadingStatements
 pub mod StatementFacts
 pub mod StatementLaws
+pub mod ReadingItems
+pub mod ItemLaws
+pub mod RunLaws
 pub mod Samples

@@ -6,6 +6,7 @@ mod expr;
 mod field;
 mod finish;
 mod item;
+pub mod laws;
 mod literal;
 mod name;
 mod part;

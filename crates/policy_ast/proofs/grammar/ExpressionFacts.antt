@@ -1,5 +1,5 @@
 -- What an expression takes of the tokens, and that it is a node.
-use Rattle.std.proofs.Common.{◌≡◌, ℕ, zero, suc, ◌+◌, ◌<◌, ◌≤◌, max, Bool, true, false, List, length, Option, refl, arith}
+use Rattle.std.proofs.Common.{◌≡◌, ℕ, zero, suc, Bool, true, false, refl, arith}
 use Rattle.policy_ast.specs.declared.expr.Arithmetic.{Arithmetic}
 use Rattle.policy_ast.specs.declared.expr.Arithmetic.TheVariants as arithmetic
 use Rattle.policy_ast.specs.declared.expr.Count.{Count}
@@ -7,15 +7,14 @@ use Rattle.policy_ast.specs.declared.expr.Count.TheVariants as count
 use Rattle.policy_ast.specs.declared.expr.Expr.{Expr}
 use Rattle.policy_ast.specs.declared.expr.Unary.{Unary}
 use Rattle.policy_ast.specs.declared.expr.Unary.TheVariants as unary
-use Rattle.policy_ast.specs.declared.part.Part.{Part}
 use Rattle.policy_ast.specs.grammar.Expressions as rows
 use Rattle.policy_ast.specs.grammar.Expressions.{AndOver, BindOver, BodyOver, ComparisonOver, ConditionalOver, ElseOver, ExprOver, ExprWithin, FreeOver, FreeValueOver, IsExpr, LetOver, OrOver, PatternOver, Place, PrimaryOver, UnaryOver, conditional, operand, whole}
 use Rattle.policy_ast.specs.grammar.Fields as fields
 use Rattle.policy_ast.specs.grammar.Fields.{IsNumber}
 use Rattle.policy_ast.specs.grammar.Fixed.{and, arithmetic_token, arrow, close_brace, close_bracket, close_paren, colon, comma, comparison_token, count_token, dot, equals, open_brace, open_bracket, open_paren, or, path, presence_token, question_mark, sign_token, word}
 use Rattle.policy_ast.specs.grammar.Forms.{◌▸◌, Listed}
-use Rattle.policy_ast.specs.grammar.Parts.{Between, Tokens}
-use Rattle.policy_ast.proofs.grammar.Facts.{AreHigh, AreParts, AreShort, IsPart, are_short, before_parts, before_short, behind_high, behind_parts, behind_short, chained_high, chained_parts, empty_short, is_closing, listed_short, made_parts, made_short, many_short, node_high, node_parts, node_short, optional_short, pair_parts, pair_short}
+use Rattle.policy_ast.specs.grammar.Parts.{Between}
+use Rattle.policy_ast.proofs.grammar.Facts.{AreHigh, AreParts, AreShort, are_short, before_parts, before_short, behind_high, behind_parts, behind_short, chained_high, chained_parts, empty_short, is_closing, listed_short, made_parts, made_short, many_short, node_high, node_parts, node_short, optional_short, pair_parts, pair_short}
 use Rattle.policy_ast.proofs.grammar.FieldLaws.{literal_parts, name_parts}
 
 pub number_parts : AreParts IsNumber

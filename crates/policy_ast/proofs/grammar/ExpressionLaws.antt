@@ -1,5 +1,5 @@
 -- The laws of the readings of expressions.
-use Rattle.std.proofs.Common.{◌≡◌, ℕ, zero, suc, ◌+◌, ◌<◌, ◌≤◌, max, Bool, true, false, List, [], ◌∷◌, length, Option, Some, None, option_and_then, refl, ap, sym, subst, ◌∙◌, arith, true≢false}
+use Rattle.std.proofs.Common.{◌≡◌, ℕ, zero, suc, ◌+◌, ◌≤◌, max, Bool, true, false, List, ◌∷◌, Option, Some, None, option_and_then, refl, ap, sym, subst, ◌∙◌, arith, true≢false}
 use Rattle.policy_ast.specs.declared.bind.Bind.{Bind}
 use Rattle.policy_ast.specs.declared.expr.Arithmetic.{Arithmetic}
 use Rattle.policy_ast.specs.declared.expr.Arithmetic.TheVariants as arithmetic
@@ -12,7 +12,6 @@ use Rattle.policy_ast.specs.declared.expr.ElseExpr.TheVariants as else_expr
 use Rattle.policy_ast.specs.declared.expr.Expr.{Expr}
 use Rattle.policy_ast.specs.declared.expr.Expr.TheVariants as expr
 use Rattle.policy_ast.specs.declared.expr.ExprBlock.{ExprBlock}
-use Rattle.policy_ast.specs.declared.expr.IfExpr.{IfExpr}
 use Rattle.policy_ast.specs.declared.expr.Let.{Let}
 use Rattle.policy_ast.specs.declared.expr.Presence.{Presence}
 use Rattle.policy_ast.specs.declared.expr.Presence.TheVariants as presence
@@ -29,17 +28,17 @@ use Rattle.policy_ast.specs.grammar.Fields.{IsLiteral, IsName, IsNumber}
 use Rattle.policy_ast.specs.grammar.Fixed.{and, arithmetic_token, arrow, close_brace, close_bracket, close_paren, colon, comma, comparison_token, count_token, dot, equals, open_brace, open_bracket, open_paren, or, path, presence_token, question_mark, sign_token, word}
 use Rattle.policy_ast.specs.grammar.Forms as forms
 use Rattle.policy_ast.specs.grammar.Forms.{◌▸◌, ◌◂◌, ◌⊗◌, Chained, Empty, Listed, Made, Many, Node, Optional}
-use Rattle.policy_ast.specs.grammar.Parts.{Between, Tokens, joined, joint, made, part}
+use Rattle.policy_ast.specs.grammar.Parts.{Between, Tokens, joined, joint, part}
 use Rattle.policy_ast.specs.Words.{is_name, is_reserved}
 use Rattle.policy_ast.proofs.grammar.Ends.{Ends, NoBrace, EndsAnd, EndsComparison, EndsPattern, EndsPrimary, EndsUnary, EndsWhole, before_and, before_close_brace, before_close_bracket, before_close_paren, before_colon, before_comma, before_comparison, before_dot, before_is, before_let, before_or, ends_before_brace}
-use Rattle.policy_ast.proofs.grammar.ExpressionFacts.{bind_parts, comparison_parts, and_parts, expr_over_high, expr_within_parts, free_parts, let_parts, unary_parts}
-use Rattle.policy_ast.proofs.grammar.Facts.{AreParts, forward, is_open, not_after, unclosed}
+use Rattle.policy_ast.proofs.grammar.ExpressionFacts.{bind_parts, comparison_parts, and_parts, expr_over_high, expr_within_parts, free_parts, let_parts}
+use Rattle.policy_ast.proofs.grammar.Facts.{AreParts, forward, not_after, unclosed}
 use Rattle.policy_ast.proofs.grammar.FieldLaws.{constant_finds, name_is_read, name_parts, name_then, named_then, not_word, number_is_read}
-use Rattle.policy_ast.proofs.grammar.Laws.{Always, Finds, IsFound, IsRead, after_some, before_is_read, behind_found, behind_is_read, bind_then, built_then, chosen_then, empty_is_read, fits, found_as, found_by, made_found, made_is_read, moved, node_above, node_found, node_is_read, nothing_finds, on_finds, operated_finds, operated_then, optional_is_read, pair_is_read, paired_found, same_some, starts_with}
+use Rattle.policy_ast.proofs.grammar.Laws.{Always, Finds, IsFound, IsRead, after_some, before_is_read, behind_found, behind_is_read, bind_then, built_then, chosen_then, empty_is_read, fits, found_as, found_by, made_is_read, moved, node_above, node_found, node_is_read, on_finds, operated_finds, operated_then, optional_is_read, pair_is_read, paired_found, same_some, starts_with}
 use Rattle.policy_ast.proofs.grammar.Loops.{chained_is_read, listed_is_read, many_is_read, node_is_added}
-use Rattle.policy_ast.proofs.grammar.Reading.{Reader, after, before, behind, built, chained, chosen, listed, making, many, node_added, noded, nothing, on, operated, operator, optional, pair, paired, read_empty}
+use Rattle.policy_ast.proofs.grammar.Reading.{Reader, after, before, behind, built, chained, listed, making, node_added, noded, nothing, operated, operator, paired, read_empty}
 use Rattle.policy_ast.proofs.grammar.ReadingExpressions.{and_over, arithmetic_over, arithmetics, bind_over, body_over, braced_over, compared_over, comparison_over, comparisons, conditional_over, count_over, counts, else_over, expr_over, free_over, free_value_over, keyword_over, let_over, name_over, or_over, pattern_over, presences, primary_over, read_expr, signs, tested_over, two_names_over, unary_over}
-use Rattle.policy_ast.proofs.grammar.ReadingFields.{named, read_constant, read_name, read_number}
+use Rattle.policy_ast.proofs.grammar.ReadingFields.{read_constant, read_name}
 
 -- an operator is seen where it stands
 comparison_here : (op : Comparison) (ts : Tokens) → operator comparison_token comparisons (comparison_token op ∷ ts) ≡ Some (op, ts)
@@ -225,13 +224,13 @@ module _ (Below Below' : Place → Between Expr) (below : Place → Reader Expr)
       → (p : Part Expr × Tokens) → two_names_over below limit (part text 0) (part other 0) inner ≡ Some p → IsFound (PrimaryOver Below' h) (suc limit) ts p
   two_names_found h ts mid inner text other first second p is =
       chosen_then (after open_paren inner) (noded (suc limit) expr.Literal (making {A = List ℕ × List ℕ} (λ t. literal.Variant t.0 t.1) (λ ts. Some (joined (λ a b. (a, b)) (part text 0) (part other 0), ts))) inner)
-        (noded (suc limit) (λ t. expr.ForeignCall t.0 t.1.0 t.1.1) (paired (part text 0) (paired (part other 0) (listed close_paren (below (whole false)))))) (Some p) is
+      (noded (suc limit) (λ t. expr.ForeignCall t.0 t.1.0 t.1.1) (paired (part text 0) (paired (part other 0) (listed close_paren (below (whole false)))))) (Some p) is
       (λ none e. built_then (suc limit) (expr.Literal (literal.Variant text other)) 0 inner p e (λ low same. found_as same
-          (record { spelled = rows.literal (forms.node_of (fields.IsLiteral.variant (forms.made_of (forms.pair first.spelled (forms.behind second.spelled))))); low = omega arith })))
+      (record { spelled = rows.literal (forms.node_of (fields.IsLiteral.variant (forms.made_of (forms.pair first.spelled (forms.behind second.spelled))))); low = omega arith })))
       (λ inside begins e. found_by rows.foreign_call (node_found (λ t. expr.ForeignCall t.0 t.1.0 t.1.1) (paired (part text 0) (paired (part other 0) (listed close_paren (below (whole false))))) ts inside
-          (paired_found (part text 0) (paired (part other 0) (listed close_paren (below (whole false)))) ts (path ∷ mid) inside first
-            (λ q e. behind_found path mid q (paired_found (part other 0) (listed close_paren (below (whole false))) mid inner inside second
-              (λ r e. moved (sym (after_some open_paren inner inside begins)) (behind_found open_paren inside r (arguments_are_read.finds inside r e))) q e))) p e))
+      (paired_found (part text 0) (paired (part other 0) (listed close_paren (below (whole false)))) ts (path ∷ mid) inside first
+      (λ q e. behind_found path mid q (paired_found (part other 0) (listed close_paren (below (whole false))) mid inner inside second
+      (λ r e. moved (sym (after_some open_paren inner inside begins)) (behind_found open_paren inside r (arguments_are_read.finds inside r e))) q e))) p e))
 
   braced_found : (h : Bool) (ts mid : Tokens) (text : List ℕ) → IsFound IsName limit ts (part text 0, mid) → (p : Part Expr × Tokens) → braced_over below limit h (part text 0) mid ≡ Some p
       → IsFound (PrimaryOver Below' h) (suc limit) ts p
@@ -240,21 +239,21 @@ module _ (Below Below' : Place → Between Expr) (below : Place → Reader Expr)
       chosen_then (after open_brace mid) (built (suc limit) (expr.Name text) 0 mid) (noded (suc limit) (λ t. expr.Struct t.0 t.1) (paired (part text 0) (listed close_brace (bind_over below limit)))) (Some p) is
       (λ none e. built_then (suc limit) (expr.Name text) 0 mid p e (λ low same. found_as same (record { spelled = rows.name (forms.node_of first.spelled); low = omega arith })))
       (λ inside begins e. found_by (rows.fields refl) (node_found (λ t. expr.Struct t.0 t.1) (paired (part text 0) (listed close_brace (bind_over below limit))) ts inside
-          (paired_found (part text 0) (listed close_brace (bind_over below limit)) ts mid inside first
-            (λ q e. moved (sym (after_some open_brace mid inside begins)) (behind_found open_brace inside q (binds_are_read.finds inside q e)))) p e))
+      (paired_found (part text 0) (listed close_brace (bind_over below limit)) ts mid inside first
+      (λ q e. moved (sym (after_some open_brace mid inside begins)) (behind_found open_brace inside q (binds_are_read.finds inside q e)))) p e))
 
   name_found : (h : Bool) (ts mid : Tokens) (text : List ℕ) → IsFound IsName limit ts (part text 0, mid) → (p : Part Expr × Tokens) → name_over below limit h (part text 0) mid ≡ Some p
       → IsFound (PrimaryOver Below' h) (suc limit) ts p
   name_found h ts mid text first p is =
       chosen_then (after path mid) _ (λ ts. option_and_then (λ b. two_names_over below limit (part text 0) b.0 b.1) (read_name ts)) (Some p) is
       (λ none e. chosen_then (after open_paren mid) (braced_over below limit h (part text 0) mid) (noded (suc limit) (λ t. expr.Call t.0 t.1) (paired (part text 0) (listed close_paren (below (whole false))))) (Some p) e
-        (λ none e. braced_found h ts mid text first p e)
-        (λ inside begins e. found_by rows.call (node_found (λ t. expr.Call t.0 t.1) (paired (part text 0) (listed close_paren (below (whole false)))) ts inside
-          (paired_found (part text 0) (listed close_paren (below (whole false))) ts mid inside first
-            (λ q e. moved (sym (after_some open_paren mid inside begins)) (behind_found open_paren inside q (arguments_are_read.finds inside q e)))) p e)))
+      (λ none e. braced_found h ts mid text first p e)
+      (λ inside begins e. found_by rows.call (node_found (λ t. expr.Call t.0 t.1) (paired (part text 0) (listed close_paren (below (whole false)))) ts inside
+      (paired_found (part text 0) (listed close_paren (below (whole false))) ts mid inside first
+      (λ q e. moved (sym (after_some open_paren mid inside begins)) (behind_found open_paren inside q (arguments_are_read.finds inside q e)))) p e)))
       (λ behind begins e. bind_then (read_name behind) (λ b. two_names_over below limit (part text 0) b.0 b.1) p e (λ b reads e. name_then behind b reads (λ other inner named here same.
-          two_names_found h ts behind inner text other (subst (λ r. IsFound IsName limit ts (part text 0, r)) (after_some path mid behind begins) first)
-            (moved (sym here) (record { spelled = fields.name named; low = omega arith })) p (subst (λ q. two_names_over below limit (part text 0) q.0 q.1 ≡ Some p) (sym same) e))))
+      two_names_found h ts behind inner text other (subst (λ r. IsFound IsName limit ts (part text 0, r)) (after_some path mid behind begins) first)
+      (moved (sym here) (record { spelled = fields.name named; low = omega arith })) p (subst (λ q. two_names_over below limit (part text 0) q.0 q.1 ≡ Some p) (sym same) e))))
 
   constant_found : (h : Bool) → Finds (PrimaryOver Below' h) (noded (suc limit) expr.Literal read_constant) (suc limit)
   constant_found h ts p is = found_by rows.literal (node_found expr.Literal read_constant ts ts (constant_finds limit ts) p is)
@@ -336,23 +335,24 @@ module _ (Below Below' : Place → Between Expr) (below : Place → Reader Expr)
   comparison_reads h ts rest a (rows.alone x) low ends = rw (unary_reads h ts rest a x low ends.2, ends.0, ends.1) refl
   comparison_reads h ts rest a (rows.compared op (forms.node_of {a = all} (forms.pair {a = b} {b = c} x (forms.behind {ts = inner} y)))) low ends =
       rw (unary_reads h ts (comparison_token op ∷ inner) b x (omega (arith, low)) (before_comparison h op inner), comparison_here op inner, unary_reads h inner rest c y (omega (arith, low)) ends.2)
-        (fits (suc limit) (expr.Compare b.tree op c.tree) all.height rest (omega (arith, low)))
+      (fits (suc limit) (expr.Compare b.tree op c.tree) all.height rest (omega (arith, low)))
   comparison_reads h ts rest a (rows.is op (forms.node_of {a = b} (forms.before (forms.before x)))) low ends =
       rw (unary_reads h ts (word "is" ∷ presence_token op ∷ rest) b x (omega (arith, low)) (before_is h (presence_token op ∷ rest)), presence_here op rest)
-        (fits (suc limit) (expr.Is b.tree op) b.height rest (omega (arith, low)))
+      (fits (suc limit) (expr.Is b.tree op) b.height rest (omega (arith, low)))
 
   compared_found : (h : Bool) (ts mid : Tokens) (a : Part Expr) → IsFound (UnaryOver Below' h) (suc limit) ts (a, mid) → (p : Part Expr × Tokens) → compared_over below limit h a mid ≡ Some p
       → IsFound (ComparisonOver Below' h) (suc limit) ts p
   compared_found h ts mid a first p is = operated_then comparison_token comparisons (λ op. noded (suc limit) (λ t. expr.Compare t.0 op t.1) (paired a (unary_over below limit h))) (tested_over below limit a) mid p is
       (λ op inner begins e. found_by (rows.compared op) (node_found (λ t. expr.Compare t.0 op t.1) (paired a (unary_over below limit h)) ts inner
-          (paired_found a (unary_over below limit h) ts mid inner first (λ q e. moved (sym begins) (behind_found (comparison_token op) inner q ((unary_is_read h).finds inner q e)))) p e))
+      (paired_found a (unary_over below limit h) ts mid inner first (λ q e. moved (sym begins) (behind_found (comparison_token op) inner q ((unary_is_read h).finds inner q e)))) p e))
       (λ e. chosen_then (after (word "is") mid) (Some (a, mid)) (operated presence_token presences (λ op. built (suc limit) (expr.Is a.tree op) a.height) nothing) (Some p) e
-        (λ none e. found_as (same_some (a, mid) p e) (record { spelled = rows.alone first.spelled; low = first.low }))
-        (λ behind begins e. operated_then presence_token presences (λ op. built (suc limit) (expr.Is a.tree op) a.height) nothing behind p e
-          (λ op inner tells e. built_then (suc limit) (expr.Is a.tree op) a.height inner p e (λ lower same. found_as same (record {
-            spelled = rows.is op (forms.node_of (forms.before (forms.before (subst (λ r. UnaryOver Below' h ts r a) (after_some (word "is") mid behind begins ∙ ap (λ r. word "is" ∷ r) tells) first.spelled))));
-            low = omega (arith, lower) })))
-          (λ e. absurd (cc))))
+      (λ none e. found_as (same_some (a, mid) p e) (record { spelled = rows.alone first.spelled; low = first.low }))
+      (λ behind begins e. operated_then presence_token presences (λ op. built (suc limit) (expr.Is a.tree op) a.height) nothing behind p e
+      (λ op inner tells e. built_then (suc limit) (expr.Is a.tree op) a.height inner p e (λ lower same. found_as same (record {
+        spelled = rows.is op (forms.node_of (forms.before (forms.before (subst (λ r. UnaryOver Below' h ts r a) (after_some (word "is") mid behind begins ∙ ap (λ r. word "is" ∷ r) tells) first.spelled))));
+        low = omega (arith, lower);
+      })))
+      (λ e. absurd (cc))))
 
   comparison_is_read : (h : Bool) → IsRead (ComparisonOver Below h) (ComparisonOver Below' h) (comparison_over below limit h) (suc limit) (EndsComparison h)
   comparison_is_read h = record {

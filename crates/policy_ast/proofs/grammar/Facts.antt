@@ -1,5 +1,5 @@
 -- What each form takes of the tokens, and that it begins with no closing symbol.
-use Rattle.std.proofs.Common.{◌≡◌, ℕ, zero, suc, ◌+◌, ◌<◌, ◌≤◌, ◌==◌, ◌||◌, not, max, Bool, true, false, List, [], ◌∷◌, length, Option, Some, None, if◌then◌else◌, refl, ap, sym, ◌∙◌, arith, true≢false}
+use Rattle.std.proofs.Common.{◌≡◌, ◌<◌, ◌≤◌, ◌==◌, ◌||◌, not, Bool, true, false, List, [], ◌∷◌, length, Some, None, if◌then◌else◌, refl, ap, sym, ◌∙◌, arith, true≢false}
 use Rattle.policy_ast.specs.declared.part.Part.{Part}
 use Rattle.policy_ast.specs.declared.symbols.TheConstants as symbols
 use Rattle.policy_ast.specs.declared.token.TokenKind.{TokenKind}

@@ -1,5 +1,5 @@
 -- The laws of the readings of names, literals, types and fields.
-use Rattle.std.proofs.Common.{◌≡◌, ℕ, zero, suc, ℤ, ◌+◌, ◌<◌, ◌≤◌, Bool, true, false, List, [], ◌∷◌, length, Option, Some, None, option_and_then, is_some, if◌then◌else◌, bytes_eq, refl, ap, sym, subst, ◌∙◌, arith, true≢false}
+use Rattle.std.proofs.Common.{◌≡◌, ℕ, zero, suc, ℤ, ◌<◌, ◌≤◌, Bool, true, false, List, [], ◌∷◌, Some, None, if◌then◌else◌, bytes_eq, refl, ap, sym, subst, ◌∙◌, arith, true≢false}
 use Rattle.std.specs.Prelude.{codes}
 use Prim.Native.String.{String}
 use Rattle.std.proofs.lemmas.Slice.Eq.{bytes_eq-Decides}
@@ -16,11 +16,11 @@ use Rattle.policy_ast.specs.grammar.Fields.{IsEffectField, IsField, IsLiteral, I
 use Rattle.policy_ast.specs.grammar.Fixed.{path, word}
 use Rattle.policy_ast.specs.grammar.Forms as forms
 use Rattle.policy_ast.specs.grammar.Forms.{◌▸◌, ◌⊗◌, Empty, Made, Node, Optional}
-use Rattle.policy_ast.specs.grammar.Parts.{Between, Tokens, joined, made, part}
+use Rattle.policy_ast.specs.grammar.Parts.{Between, Tokens, part}
 use Rattle.policy_ast.specs.Words.{is_name, is_reserved}
-use Rattle.policy_ast.proofs.grammar.Facts.{AreParts, AreShort, are_short, behind_parts, behind_short, empty_short, made_parts, made_short, node_parts, node_short, optional_short, pair_parts}
-use Rattle.policy_ast.proofs.grammar.Laws.{Always, Finds, IsFound, IsRead, after_some, behind_is_read, bind_then, chosen_then, empty_is_read, found_as, found_by, if_then, made_found, made_is_read, moved, node_above, paired_found, nothing_finds, on_finds, optional_is_read, pair_is_read, same_some}
-use Rattle.policy_ast.proofs.grammar.Reading.{Reader, after, behind, making, noded, nothing, on, optional, pair, paired, read_empty}
+use Rattle.policy_ast.proofs.grammar.Facts.{AreParts, AreShort, are_short, behind_parts, behind_short, empty_short, made_parts, made_short, node_short, optional_short, pair_parts}
+use Rattle.policy_ast.proofs.grammar.Laws.{Always, Finds, IsFound, IsRead, behind_is_read, chosen_then, empty_is_read, found_as, found_by, if_then, made_found, made_is_read, moved, node_above, paired_found, nothing_finds, on_finds, optional_is_read, pair_is_read, same_some}
+use Rattle.policy_ast.proofs.grammar.Reading.{Reader, after, behind, making, nothing, on, paired, read_empty}
 use Rattle.policy_ast.proofs.grammar.ReadingFields.{named, read_constant, read_effect_field, read_field, read_literal, read_name, read_number, read_pattern_literal, read_type, read_variant, type_over}
 
 -- Name
@@ -57,11 +57,11 @@ pub named_then : {A P : Type 0} {limit : ℕ} (row : Part (List ℕ) → Reader 
 named_then row other ts p is name none = chosen_then (read_name ts) (other ts) (λ a. row a.0 a.1) (Some p) is
     (λ unnamed e. none e)
     (λ a reads e. name_then ts a reads (λ text rest named begins same. name text rest
-        (moved (sym begins) (record { spelled = fields.name named; low = omega arith })) (subst (λ q. row q.0 q.1 ≡ Some p) (sym same) e)))
+    (moved (sym begins) (record { spelled = fields.name named; low = omega arith })) (subst (λ q. row q.0 q.1 ≡ Some p) (sym same) e)))
 
 -- Number
 pub number_is_read : {limit : ℕ} → IsRead IsNumber IsNumber read_number limit Always
-number_is_read = record { reads = λ ts rest a x low ends. number_reads ts rest a x; finds = number_finds; }
+number_is_read = record { reads = λ ts rest a x low ends. number_reads ts rest a x; finds = number_finds }
   where
     number_reads : (ts rest : Tokens) (a : Part ℤ) → IsNumber ts rest a → read_number ts ≡ Some (a, rest)
     number_reads ts rest a fields.IsNumber.number = refl
@@ -101,11 +101,11 @@ literal_finds : (limit : ℕ) → Finds IsLiteral read_literal limit
 unfolding read_literal
 literal_finds limit ts p is = named_then read_variant read_constant ts p is
     (λ text mid here e. found_by fields.IsLiteral.variant (made_found (λ t. literal.Variant t.0 t.1) (paired (part text 0) (behind path read_name)) ts mid
-        (paired_found (part text 0) (behind path read_name) ts mid mid here ((behind_is_read name_is_read path).finds mid)) p e))
+    (paired_found (part text 0) (behind path read_name) ts mid mid here ((behind_is_read name_is_read path).finds mid)) p e))
     (λ e. constant_finds limit ts p e)
 
 pub literal_is_read : {limit : ℕ} → IsRead IsLiteral IsLiteral read_literal limit Always
-literal_is_read {limit} = record { reads = λ ts rest a x low ends. literal_reads ts rest a x; finds = literal_finds limit; }
+literal_is_read {limit} = record { reads = λ ts rest a x low ends. literal_reads ts rest a x; finds = literal_finds limit }
 
 pub literal_parts : AreParts IsLiteral
 literal_parts ts rest a (fields.IsLiteral.number (forms.made_of fields.IsNumber.number)) = record { shorter = omega arith; opens = refl }
@@ -141,7 +141,7 @@ unfolding read_pattern_literal
 pattern_literal_finds limit = on_finds (word "None") none_is_read.finds (λ ts rest a x. fields.none x) (λ ts p e. found_by fields.written (written_is_read.finds ts p e))
 
 pub pattern_literal_is_read : {limit : ℕ} → IsRead IsPatternLiteral IsPatternLiteral read_pattern_literal limit Always
-pattern_literal_is_read {limit} = record { reads = λ ts rest a x low ends. pattern_literal_reads limit ts rest a x low; finds = pattern_literal_finds limit; }
+pattern_literal_is_read {limit} = record { reads = λ ts rest a x low ends. pattern_literal_reads limit ts rest a x low; finds = pattern_literal_finds limit }
 
 pub pattern_literal_parts : AreParts IsPatternLiteral
 pattern_literal_parts ts rest a (fields.none x) = behind_parts (made_short empty_short _) (word "None") refl ts rest a x

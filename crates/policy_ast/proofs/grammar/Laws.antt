@@ -1,5 +1,5 @@
 -- The laws of the readings: what is spelled is read, and only that; for each form of the grammar's rows.
-use Rattle.std.proofs.Common.{◌≡◌, ℕ, zero, suc, ◌+◌, ◌<◌, ◌≤◌, max, Bool, true, false, List, [], ◌∷◌, length, Option, Some, None, option_and_then, if◌then◌else◌, nat_lt, bytes_eq, refl, ap, sym, subst, ◌∙◌, arith, true≢false}
+use Rattle.std.proofs.Common.{◌≡◌, ℕ, suc, ◌+◌, ◌<◌, ◌≤◌, Bool, true, false, List, [], ◌∷◌, Option, Some, None, option_and_then, if◌then◌else◌, nat_lt, refl, ap, sym, subst, arith, true≢false}
 use Rattle.std.specs.Cmp.{signed_Decides, unsigned_Decides}
 use Rattle.std.proofs.lemmas.Bool.Decides.{Decides-ltb}
 use Rattle.std.proofs.lemmas.Slice.Eq.{bytes_eq-Decides}
@@ -8,7 +8,7 @@ use Rattle.policy_ast.specs.declared.token.TokenKind.{TokenKind}
 use Rattle.policy_ast.specs.declared.token.TokenKind.TheVariants as token
 use Rattle.policy_ast.specs.grammar.Forms as forms
 use Rattle.policy_ast.specs.grammar.Forms.{◌▸◌, ◌◂◌, ◌⊗◌, Empty, Made, Node, Optional}
-use Rattle.policy_ast.specs.grammar.Parts.{Between, Tokens, joined, made, node, part}
+use Rattle.policy_ast.specs.grammar.Parts.{Between, Tokens, joined, made, part}
 use Rattle.policy_ast.proofs.grammar.Reading.{Reader, after, before, behind, built, chosen, is_token, making, noded, nothing, on, operated, operator, optional, pair, paired, read_empty}
 
 abbrev pub Always : Tokens → Type 0
@@ -108,7 +108,7 @@ empty_is_read = record {
 
 module _ {A : Type 0} {X X' : Between A} {read : Reader A} {limit : ℕ} {End : Tokens → Type 0} (law : IsRead X X' read limit End) where
   pub ends_before : (Other : Tokens → Type 0) → ((ts : Tokens) → Other ts → End ts) → IsRead X X' read limit Other
-  ends_before Other then_ends = record { reads = λ ts rest a x low ends. law.reads ts rest a x low (then_ends rest ends); finds = law.finds; }
+  ends_before Other then_ends = record { reads = λ ts rest a x low ends. law.reads ts rest a x low (then_ends rest ends); finds = law.finds }
 
   pub behind_is_read : (t : TokenKind) → IsRead (t ▸ X) (t ▸ X') (behind t read) limit End
   behind_is_read t = record {
@@ -164,7 +164,7 @@ module _ {A : Type 0} {X X' : Between A} {read : Reader A} {limit : ℕ} {End : 
     finds = λ ts p is. chosen_then (after t ts) (Some (part None 0, ts)) (making Some read) (Some p) is
         (λ none e. found_as (same_some (part None 0, ts) p e) (record { spelled = forms.absent; low = omega arith }))
         (λ inner begins e. bind_then (read inner) _ p e (λ a reads e. moved (sym (after_some t ts inner begins)) (found_as (same_some (made Some a.0, a.1) p e)
-            (let found = law.finds inner a reads in record { spelled = forms.present found.spelled; low = found.low }))));
+        (let found = law.finds inner a reads in record { spelled = forms.present found.spelled; low = found.low }))));
   }
     where
       reads : (ts rest : Tokens) (b : Part (Option A)) → Optional t X ts rest b → b.height ≤ limit → (after t rest ≡ None) × End rest → optional t read ts ≡ Some (b, rest)

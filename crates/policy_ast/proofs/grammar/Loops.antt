@@ -1,13 +1,13 @@
 -- The laws of the readings that go on as long as they can: lists with and without commas, and chains.
-use Rattle.std.proofs.Common.{◌≡◌, ℕ, zero, suc, ◌+◌, ◌-◌, ◌<◌, ◌≤◌, max, List, [], ◌∷◌, length, Option, Some, None, option_and_then, refl, sym, subst, arith}
+use Rattle.std.proofs.Common.{◌≡◌, ℕ, zero, suc, ◌<◌, ◌≤◌, max, List, ◌∷◌, length, Some, None, option_and_then, refl, sym, subst, arith}
 use Rattle.policy_ast.specs.declared.part.Part.{Part}
 use Rattle.policy_ast.specs.declared.token.TokenKind.{TokenKind}
 use Rattle.policy_ast.specs.grammar.Fixed.{comma}
 use Rattle.policy_ast.specs.grammar.Forms as forms
 use Rattle.policy_ast.specs.grammar.Forms.{Chain, Chained, Listed, ListedMore, Many, ManyMore}
-use Rattle.policy_ast.specs.grammar.Parts.{Between, Tokens, joint, longer, nothing_yet, part}
+use Rattle.policy_ast.specs.grammar.Parts.{Between, Tokens, joint, longer, nothing_yet}
 use Rattle.policy_ast.proofs.grammar.Laws.{Always, IsFound, IsRead, after_here, after_some, bind_then, built_then, chosen_then, fits, found_as, moved, same_some}
-use Rattle.policy_ast.proofs.grammar.Reading.{Reader, after, built, chain, chained, chosen, list_added, listed, listed_more, many, many_more, node_added, nothing}
+use Rattle.policy_ast.proofs.grammar.Reading.{Reader, after, chain, chained, chosen, list_added, listed, listed_more, many, many_more, node_added, nothing}
 
 -- it is spelled by one token at least, and by none at least
 abbrev pub IsForward : {A : Type 0} → Between A → Type 0
@@ -37,7 +37,7 @@ module _ {A : Type 0} {X X' : Between A} {read : Reader A} {limit : ℕ} {End : 
         let p = forward ts mid a x in
         let q = many_grow mid rest (longer found a) all xs in
         rw (unclosed ts mid a x, law.reads ts mid a x (omega (arith, q, low)) (many_begin mid rest (longer found a) all xs))
-          (many_reads mid rest (longer found a) all xs k (omega (arith, p, room)) low)
+        (many_reads mid rest (longer found a) all xs k (omega (arith, p, room)) low)
 
     many_finds : (k : ℕ) (found : Part (List A)) (ts : Tokens) (p : Part (List A) × Tokens) → many_more close read k found ts ≡ Some p → found.height ≤ limit
         → IsFound (λ ts rest all. ManyMore close X' ts rest found all) limit ts p
@@ -45,11 +45,11 @@ module _ {A : Type 0} {X X' : Between A} {read : Reader A} {limit : ℕ} {End : 
     many_finds zero found ts p is low = absurd (cc)
     many_finds (suc k) found ts p is low = chosen_then (after close ts) (option_and_then (λ a. many_more close read k (longer found a.0) a.1) (read ts)) (λ rest. Some (found, rest)) (Some p) is
         (λ none e. bind_then (read ts) _ p e (λ a reads e.
-            let one = law.finds ts a reads in
-            let more = many_finds k (longer found a.0) a.1 p e (omega (arith, one.low, low)) in
-            record { spelled = forms.ManyMore.more one.spelled more.spelled; low = more.low }))
+        let one = law.finds ts a reads in
+        let more = many_finds k (longer found a.0) a.1 p e (omega (arith, one.low, low)) in
+        record { spelled = forms.ManyMore.more one.spelled more.spelled; low = more.low }))
         (λ rest ends e. moved {X = λ ts rest all. ManyMore close X' ts rest found all} (sym (after_some close ts rest ends))
-            (found_as {X = λ ts rest all. ManyMore close X' ts rest found all} (same_some (found, rest) p e) (record { spelled = forms.ManyMore.none; low = low })))
+        (found_as {X = λ ts rest all. ManyMore close X' ts rest found all} (same_some (found, rest) p e) (record { spelled = forms.ManyMore.none; low = low })))
 
     pub many_is_read : IsRead (Many X close) (Many X' close) (many close read) limit Always
     many_is_read = record {
@@ -76,25 +76,25 @@ module _ {A : Type 0} {X X' : Between A} {read : Reader A} {limit : ℕ} {End : 
         let p = forward ts (comma ∷ mid) a x in
         let q = listed_grow mid rest (longer found a) all xs in
         rw (unclosed ts (comma ∷ mid) a x, law.reads ts (comma ∷ mid) a x (omega (arith, q, low)) (parted mid), differs mid)
-          (listed_reads mid rest (longer found a) all xs k (omega (arith, p, room)) low)
+        (listed_reads mid rest (longer found a) all xs k (omega (arith, p, room)) low)
 
     listed_finds : (k : ℕ) (found : Part (List A)) (ts : Tokens) (p : Part (List A) × Tokens) → listed_more close read k found ts ≡ Some p → found.height ≤ limit
         → IsFound (λ ts rest all. ListedMore close X' ts rest found all) limit ts p
     unfolding listed_more
     listed_finds zero found ts p is low = absurd (cc)
     listed_finds (suc k) found ts p is low = chosen_then (after close ts) (option_and_then (λ a. chosen (after close a.1)
-            (option_and_then (λ mid. listed_more close read k (longer found a.0) mid) (after comma a.1)) (λ rest. Some (longer found a.0, rest))) (read ts))
-            (λ rest. Some (found, rest)) (Some p) is
+        (option_and_then (λ mid. listed_more close read k (longer found a.0) mid) (after comma a.1)) (λ rest. Some (longer found a.0, rest))) (read ts))
+        (λ rest. Some (found, rest)) (Some p) is
         (λ none e. bind_then (read ts) _ p e (λ a reads e.
-            let one = law.finds ts a reads in
-            chosen_then (after close a.1) (option_and_then (λ mid. listed_more close read k (longer found a.0) mid) (after comma a.1)) (λ rest. Some (longer found a.0, rest)) (Some p) e
-            (λ none e. bind_then (after comma a.1) _ p e (λ mid parts e.
-                let more = listed_finds k (longer found a.0) mid p e (omega (arith, one.low, low)) in
-                record { spelled = forms.ListedMore.more (subst (λ r. X' ts r a.0) (after_some comma a.1 mid parts) one.spelled) more.spelled; low = more.low }))
-            (λ rest ends e. found_as {X = λ ts rest all. ListedMore close X' ts rest found all} (same_some (longer found a.0, rest) p e)
-                (record { spelled = forms.ListedMore.last (subst (λ r. X' ts r a.0) (after_some close a.1 rest ends) one.spelled); low = omega (arith, one.low, low) }))))
+        let one = law.finds ts a reads in
+        chosen_then (after close a.1) (option_and_then (λ mid. listed_more close read k (longer found a.0) mid) (after comma a.1)) (λ rest. Some (longer found a.0, rest)) (Some p) e
+        (λ none e. bind_then (after comma a.1) _ p e (λ mid parts e.
+        let more = listed_finds k (longer found a.0) mid p e (omega (arith, one.low, low)) in
+        record { spelled = forms.ListedMore.more (subst (λ r. X' ts r a.0) (after_some comma a.1 mid parts) one.spelled) more.spelled; low = more.low }))
+        (λ rest ends e. found_as {X = λ ts rest all. ListedMore close X' ts rest found all} (same_some (longer found a.0, rest) p e)
+        (record { spelled = forms.ListedMore.last (subst (λ r. X' ts r a.0) (after_some close a.1 rest ends) one.spelled); low = omega (arith, one.low, low) }))))
         (λ rest ends e. moved {X = λ ts rest all. ListedMore close X' ts rest found all} (sym (after_some close ts rest ends))
-            (found_as {X = λ ts rest all. ListedMore close X' ts rest found all} (same_some (found, rest) p e) (record { spelled = forms.ListedMore.none; low = low })))
+        (found_as {X = λ ts rest all. ListedMore close X' ts rest found all} (same_some (found, rest) p e) (record { spelled = forms.ListedMore.none; low = low })))
 
     pub listed_is_read : IsRead (Listed X close) (Listed X' close) (listed close read) limit Always
     listed_is_read = record {
@@ -150,7 +150,7 @@ module _ {A B : Type 0} {X X' : Between B} {Y Y' : Between A} {first : Reader B}
       let here = adds.grows b a in
       let p = forward inner mid a y in
       rw (after_here t inner, next.reads inner mid a y (omega (arith, q, here, low)) (chain_end mid rest (add b a) c ys ends), adds.fit b a mid (omega (arith, q, low)))
-        (chain_reads mid rest (add b a) c ys k (omega (arith, p, room)) low ends over)
+      (chain_reads mid rest (add b a) c ys k (omega (arith, p, room)) low ends over)
 
   chain_finds : (k : ℕ) (b : Part B) (ts : Tokens) (p : Part B × Tokens) → chain t added read k b ts ≡ Some p → b.height ≤ limit
       → IsFound (λ ts rest c. Chain t add Y' ts rest b c) limit ts p
@@ -161,11 +161,11 @@ module _ {A B : Type 0} {X X' : Between B} {Y Y' : Between A} {first : Reader B}
   chain_finds (suc k) b ts p is low = chosen_then (after t ts) (Some (b, ts)) _ (Some p) is
       (λ none e. found_as {X = λ ts rest c. Chain t add Y' ts rest b c} (same_some (b, ts) p e) (record { spelled = forms.Chain.done; low = low }))
       (λ inner more e. bind_then (read inner) _ p e (λ a reads e. bind_then (added b a.0 a.1) _ p e (λ c fit e.
-          let one = next.finds inner a reads in
-          let sum = adds.only b a.0 a.1 c fit low one.low in
-          let others = chain_finds k (add b a.0) a.1 p (subst (λ q. chain t added read k q.0 q.1 ≡ Some p) (sym sum.0) e) sum.1 in
-          moved {X = λ ts rest c. Chain t add Y' ts rest b c} (sym (after_some t ts inner more))
-            (record { spelled = forms.Chain.more one.spelled others.spelled; low = others.low }))))
+      let one = next.finds inner a reads in
+      let sum = adds.only b a.0 a.1 c fit low one.low in
+      let others = chain_finds k (add b a.0) a.1 p (subst (λ q. chain t added read k q.0 q.1 ≡ Some p) (sym sum.0) e) sum.1 in
+      moved {X = λ ts rest c. Chain t add Y' ts rest b c} (sym (after_some t ts inner more))
+      (record { spelled = forms.Chain.more one.spelled others.spelled; low = others.low }))))
 
   pub chained_is_read : IsRead (Chained t add X Y) (Chained t add X' Y') (chained t added first read) limit (λ ts. (after t ts ≡ None) × Last ts × End ts)
   chained_is_read = record {
@@ -181,4 +181,4 @@ module _ {A B : Type 0} {X X' : Between B} {Y Y' : Between A} {first : Reader B}
       reads ts rest c (forms.chained {mid = mid} {b = b} x ys) low ends =
           let q = chain_grows mid rest b c ys in
           rw (law.reads ts mid b x (omega (arith, q, low)) (chain_last mid rest b c ys ends.1))
-            (chain_reads mid rest b c ys (length mid) (omega arith) low ends.2 ends.0)
+          (chain_reads mid rest b c ys (length mid) (omega arith) low ends.2 ends.0)

@@ -1,6 +1,6 @@
 -- How parts are read from the front of a list of tokens: a reading for each form of the grammar's rows.
 -- This serves the proofs alone: what is spelled stands in the grammar, and the laws say that the two agree.
-use Rattle.std.specs.Prelude.{ℕ, zero, suc, ◌+◌, max, ◌==◌, nat_lt, Bool, true, false, if◌then◌else◌, List, [], ◌∷◌, length, Option, Some, None, option_and_then}
+use Rattle.std.specs.Prelude.{ℕ, zero, suc, ◌+◌, max, ◌==◌, nat_lt, Bool, false, if◌then◌else◌, List, [], ◌∷◌, length, Option, Some, None, option_and_then}
 use Rattle.std.proofs.Common.{int_eq}
 use Rattle.std.specs.Str.{bytes_eq}
 use Rattle.policy_ast.specs.declared.part.Part.{Part}
@@ -81,8 +81,8 @@ unfoldable pub listed_more : {A : Type 0} → TokenKind → Reader A → ℕ →
 listed_more close one zero found ts = None
 listed_more close one (suc k) found ts = chosen (after close ts)
     (option_and_then (λ a. chosen (after close a.1)
-        (option_and_then (λ mid. listed_more close one k (longer found a.0) mid) (after comma a.1))
-        (λ rest. Some (longer found a.0, rest))) (one ts))
+    (option_and_then (λ mid. listed_more close one k (longer found a.0) mid) (after comma a.1))
+    (λ rest. Some (longer found a.0, rest))) (one ts))
     (λ rest. Some (found, rest))
 
 abbrev pub listed : {A : Type 0} → TokenKind → Reader A → Reader (List A)

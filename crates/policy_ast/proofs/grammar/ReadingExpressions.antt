@@ -14,7 +14,6 @@ use Rattle.policy_ast.specs.declared.expr.ElseExpr.TheVariants as else_expr
 use Rattle.policy_ast.specs.declared.expr.Expr.{Expr}
 use Rattle.policy_ast.specs.declared.expr.Expr.TheVariants as expr
 use Rattle.policy_ast.specs.declared.expr.ExprBlock.{ExprBlock}
-use Rattle.policy_ast.specs.declared.expr.IfExpr.{IfExpr}
 use Rattle.policy_ast.specs.declared.expr.Let.{Let}
 use Rattle.policy_ast.specs.declared.expr.Presence.{Presence}
 use Rattle.policy_ast.specs.declared.expr.Presence.TheVariants as presence
@@ -24,7 +23,7 @@ use Rattle.policy_ast.specs.declared.literal.Literal.TheVariants as literal
 use Rattle.policy_ast.specs.declared.part.Part.{Part}
 use Rattle.policy_ast.specs.grammar.Expressions.{Place, conditional, operand, whole}
 use Rattle.policy_ast.specs.grammar.Fixed.{and, arithmetic_token, arrow, close_brace, close_bracket, close_paren, colon, comma, comparison_token, count_token, dot, equals, open_brace, open_bracket, open_paren, or, path, presence_token, question_mark, sign_token, word}
-use Rattle.policy_ast.specs.grammar.Parts.{Tokens, joined}
+use Rattle.policy_ast.specs.grammar.Parts.{joined}
 use Rattle.policy_ast.proofs.grammar.Reading.{Reader, before, behind, built, chained, listed, making, many, node_added, noded, nothing, on, operated, optional, pair, paired, read_empty}
 use Rattle.policy_ast.proofs.grammar.ReadingFields.{named, read_constant, read_name, read_number}
 

@@ -1,5 +1,5 @@
 -- How names, literals, types and fields are read.
-use Rattle.std.specs.Prelude.{ℕ, zero, suc, ℤ, if◌then◌else◌, List, [], ◌∷◌, Option, Some, None, is_some}
+use Rattle.std.specs.Prelude.{ℕ, zero, suc, ℤ, if◌then◌else◌, List, ◌∷◌, Some, None, is_some}
 use Rattle.policy_ast.specs.declared.field.EffectField.{EffectField}
 use Rattle.policy_ast.specs.declared.field.Field.{Field}
 use Rattle.policy_ast.specs.declared.field.FieldType.{FieldType}
@@ -11,7 +11,7 @@ use Rattle.policy_ast.specs.declared.literal.PatternLiteral.TheVariants as patte
 use Rattle.policy_ast.specs.declared.part.Part.{Part}
 use Rattle.policy_ast.specs.declared.token.TokenKind.TheVariants as token
 use Rattle.policy_ast.specs.grammar.Fixed.{path, word}
-use Rattle.policy_ast.specs.grammar.Parts.{Tokens, part}
+use Rattle.policy_ast.specs.grammar.Parts.{part}
 use Rattle.policy_ast.specs.Words.{is_name}
 use Rattle.policy_ast.proofs.grammar.Reading.{Reader, behind, chosen, making, noded, nothing, on, optional, pair, paired, read_empty}
 

@@ -1,23 +1,20 @@
 -- How statements and blocks are read.
-use Rattle.std.specs.Prelude.{ℕ, zero, suc, true, false, List, [], ◌∷◌, Option, Some, None}
+use Rattle.std.specs.Prelude.{ℕ, zero, suc, true, false, List, [], ◌∷◌, None}
 use Rattle.policy_ast.specs.declared.expr.Expr.{Expr}
 use Rattle.policy_ast.specs.declared.finish.FinishStmt.{FinishStmt}
 use Rattle.policy_ast.specs.declared.finish.FinishStmt.TheVariants as finish_stmt
 use Rattle.policy_ast.specs.declared.literal.PatternLiteral.{PatternLiteral}
-use Rattle.policy_ast.specs.declared.part.Part.{Part}
 use Rattle.policy_ast.specs.declared.statement.Arm.{Arm}
 use Rattle.policy_ast.specs.declared.statement.ArmPattern.{ArmPattern}
 use Rattle.policy_ast.specs.declared.statement.ArmPattern.TheVariants as arm_pattern
 use Rattle.policy_ast.specs.declared.statement.Else.{Else}
 use Rattle.policy_ast.specs.declared.statement.Else.TheVariants as otherwise
-use Rattle.policy_ast.specs.declared.statement.IfStmt.{IfStmt}
 use Rattle.policy_ast.specs.declared.statement.Stmt.{Stmt}
 use Rattle.policy_ast.specs.declared.statement.Stmt.TheVariants as stmt
 use Rattle.policy_ast.specs.grammar.Expressions.{whole}
 use Rattle.policy_ast.specs.grammar.Fixed.{arrow, bar, close_brace, close_bracket, close_paren, comma, open_brace, open_bracket, open_paren, underscore, word}
-use Rattle.policy_ast.specs.grammar.Parts.{Tokens}
 use Rattle.policy_ast.specs.grammar.Statements.{Inner, conditional, statement}
-use Rattle.policy_ast.proofs.grammar.Reading.{Reader, behind, chained, list_added, listed, making, many, noded, nothing, on, optional, pair, read_empty}
+use Rattle.policy_ast.proofs.grammar.Reading.{Reader, behind, chained, list_added, listed, making, many, noded, on, optional, pair, read_empty}
 use Rattle.policy_ast.proofs.grammar.ReadingExpressions.{bind_over, let_over, pattern_over, read_expr}
 use Rattle.policy_ast.proofs.grammar.ReadingFields.{read_name, read_pattern_literal}
 

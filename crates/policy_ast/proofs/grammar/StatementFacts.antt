@@ -1,8 +1,7 @@
 -- What a statement takes of the tokens, that it is a node, and before which tokens it may end.
-use Rattle.std.proofs.Common.{◌≡◌, ℕ, zero, suc, ◌+◌, ◌<◌, true, false, List, ◌∷◌, length, None, refl, arith}
+use Rattle.std.proofs.Common.{◌≡◌, ℕ, zero, suc, true, false, ◌∷◌, None, refl, arith}
 use Rattle.policy_ast.specs.declared.finish.FinishStmt.{FinishStmt}
 use Rattle.policy_ast.specs.declared.part.Part.{Part}
-use Rattle.policy_ast.specs.declared.statement.ArmPattern.{ArmPattern}
 use Rattle.policy_ast.specs.declared.statement.Stmt.{Stmt}
 use Rattle.policy_ast.specs.grammar.Expressions.{whole}
 use Rattle.policy_ast.specs.grammar.Fields as fields

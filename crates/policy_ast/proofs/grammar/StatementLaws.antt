@@ -1,19 +1,16 @@
 -- The laws of the readings of statements and blocks.
-use Rattle.std.proofs.Common.{◌≡◌, ℕ, zero, suc, ◌+◌, ◌<◌, ◌≤◌, true, false, List, [], ◌∷◌, length, Option, Some, None, refl, arith}
+use Rattle.std.proofs.Common.{◌≡◌, ℕ, zero, suc, ◌≤◌, true, false, List, [], ◌∷◌, Option, Some, None, refl, arith}
 use Rattle.policy_ast.specs.declared.expr.Expr.{Expr}
 use Rattle.policy_ast.specs.declared.finish.FinishStmt.{FinishStmt}
 use Rattle.policy_ast.specs.declared.finish.FinishStmt.TheVariants as finish_stmt
 use Rattle.policy_ast.specs.declared.literal.PatternLiteral.{PatternLiteral}
 use Rattle.policy_ast.specs.declared.part.Part.{Part}
-use Rattle.policy_ast.specs.declared.statement.Arm.{Arm}
 use Rattle.policy_ast.specs.declared.statement.ArmPattern.{ArmPattern}
 use Rattle.policy_ast.specs.declared.statement.ArmPattern.TheVariants as arm_pattern
 use Rattle.policy_ast.specs.declared.statement.Else.{Else}
 use Rattle.policy_ast.specs.declared.statement.Else.TheVariants as otherwise
-use Rattle.policy_ast.specs.declared.statement.IfStmt.{IfStmt}
 use Rattle.policy_ast.specs.declared.statement.Stmt.{Stmt}
 use Rattle.policy_ast.specs.declared.statement.Stmt.TheVariants as stmt
-use Rattle.policy_ast.specs.declared.token.TokenKind.TheVariants as token
 use Rattle.policy_ast.specs.grammar.Expressions.{IsExpr, whole}
 use Rattle.policy_ast.specs.grammar.Fields as fields
 use Rattle.policy_ast.specs.grammar.Fields.{IsLiteral, IsName, IsPatternLiteral}
@@ -23,19 +20,18 @@ use Rattle.policy_ast.specs.grammar.Forms.{◌▸◌, ◌⊗◌, Chained, Empty,
 use Rattle.policy_ast.specs.grammar.Parts.{Between, Tokens, longer}
 use Rattle.policy_ast.specs.grammar.Statements as rows
 use Rattle.policy_ast.specs.grammar.Statements.{ArmOver, BlockOver, ElseOver, IfOver, Inner, InnerOver, IsArmPattern, IsBind, IsBlock, IsFinishBlock, IsFinishStmt, IsHead, IsLet, IsPattern, IsStmt, IsWhole, StmtOver, StmtWithin, conditional, statement}
-use Rattle.policy_ast.specs.Words.{is_name, is_reserved}
-use Rattle.policy_ast.proofs.grammar.Ends.{Ends, EndsPattern, EndsWhole, before_close_brace, before_close_paren, before_comma, ends_before_brace}
+use Rattle.policy_ast.specs.Words.{is_reserved}
+use Rattle.policy_ast.proofs.grammar.Ends.{EndsPattern, EndsWhole, before_close_brace, ends_before_brace}
 use Rattle.policy_ast.proofs.grammar.ExpressionFacts.{expr_parts}
 use Rattle.policy_ast.proofs.grammar.ExpressionLaws.{arguments_are_read, binds_are_read, expr_is_read, keys_are_read, let_is_read, pattern_is_read}
 use Rattle.policy_ast.proofs.grammar.Facts.{AreParts, forward, not_after, unclosed}
 use Rattle.policy_ast.proofs.grammar.FieldLaws.{name_is_read, not_word, pattern_literal_is_read, pattern_literal_parts}
-use Rattle.policy_ast.proofs.grammar.Laws.{Always, Finds, IsFound, IsRead, behind_is_read, empty_is_read, ends_before, found_by, made_is_read, node_above, node_is_read, on_finds, optional_is_read, pair_is_read, starts_with}
+use Rattle.policy_ast.proofs.grammar.Laws.{Always, Finds, IsRead, behind_is_read, empty_is_read, ends_before, found_by, made_is_read, node_above, node_is_read, on_finds, optional_is_read, pair_is_read, starts_with}
 use Rattle.policy_ast.proofs.grammar.Loops.{chained_is_read, list_is_added, many_is_read}
-use Rattle.policy_ast.proofs.grammar.Reading.{Reader, after, behind, chained, list_added, listed, making, many, noded, nothing, on, optional, pair, read_empty}
+use Rattle.policy_ast.proofs.grammar.Reading.{Reader, after, listed, making, many, noded}
 use Rattle.policy_ast.proofs.grammar.ReadingExpressions.{bind_over, let_over, pattern_over, read_expr}
-use Rattle.policy_ast.proofs.grammar.ReadingFields.{read_name, read_pattern_literal}
 use Rattle.policy_ast.proofs.grammar.ReadingStatements.{arm_over, block_over, else_over, if_over, inner_over, map_over, match_over, read_alternatives, read_arm_pattern, read_block, read_create, read_delete, read_finish_block, read_finish_call, read_finish_stmt, read_head, read_stmt, read_update, read_whole, stmt_over}
-use Rattle.policy_ast.proofs.grammar.StatementFacts.{EndsIf, EndsInner, EndsStmt, arm_parts, arm_pattern_parts, finish_stmt_follows, finish_stmt_parts, inner_over_high, is_stmt_follows, is_stmt_parts, stmt_within_follows, stmt_within_parts}
+use Rattle.policy_ast.proofs.grammar.StatementFacts.{EndsIf, EndsInner, EndsStmt, arm_parts, finish_stmt_follows, finish_stmt_parts, inner_over_high, is_stmt_follows, is_stmt_parts, stmt_within_follows, stmt_within_parts}
 
 module _ (limit : ℕ) where
   whole_is_read : IsRead IsWhole IsWhole (read_whole limit) limit (EndsWhole false)
@@ -83,7 +79,7 @@ module _ (limit : ℕ) where
   finish_stmt_reads ts rest a (rows.emit (forms.behind {ts = inner} x)) low ends = emit_is_read.reads inner rest a x low ends
   finish_stmt_reads ts rest a (rows.call (forms.node_of (forms.pair {mid = mid} (fields.name {text = text} is) x))) low ends =
       rw (not_word "create" refl text is mid, not_word "update" refl text is mid, not_word "delete" refl text is mid, not_word "emit" refl text is mid)
-        (finish_call_is_read.reads ts rest a (forms.node_of (forms.pair (fields.name is) x)) low tt)
+      (finish_call_is_read.reads ts rest a (forms.node_of (forms.pair (fields.name is) x)) low tt)
 
   finish_stmt_finds : Finds IsFinishStmt (read_finish_stmt limit) limit
   unfolding read_finish_stmt
@@ -95,7 +91,7 @@ module _ (limit : ℕ) where
       (λ ts p is. found_by rows.call (finish_call_is_read.finds ts p is)))))
 
   finish_stmt_is_read : IsRead IsFinishStmt IsFinishStmt (read_finish_stmt limit) limit (EndsWhole false)
-  finish_stmt_is_read = record { reads = finish_stmt_reads; finds = finish_stmt_finds; }
+  finish_stmt_is_read = record { reads = finish_stmt_reads; finds = finish_stmt_finds }
 
   pub finish_block_is_read : IsRead IsFinishBlock IsFinishBlock (read_finish_block limit) limit Always
   finish_block_is_read = behind_is_read (many_is_read close_brace finish_stmt_is_read (forward finish_stmt_parts) (unclosed finish_stmt_parts close_brace refl) before_close_brace finish_stmt_follows) open_brace
@@ -128,7 +124,7 @@ arm_pattern_finds limit = on_finds underscore ((made_is_read empty_is_read (λ n
     (λ ts p is. found_by rows.literals ((made_is_read alternatives_are_read arm_pattern.Literals).finds ts p is))
 
 arm_pattern_is_read : {limit : ℕ} → IsRead IsArmPattern IsArmPattern read_arm_pattern limit EndsArmPattern
-arm_pattern_is_read {limit} = record { reads = arm_pattern_reads limit; finds = arm_pattern_finds limit; }
+arm_pattern_is_read {limit} = record { reads = arm_pattern_reads limit; finds = arm_pattern_finds limit }
 
 module _ (Below Below' : Inner → Between Stmt) (below : Inner → Reader Stmt) (limit : ℕ) (parts : (inner : Inner) → AreParts (Below inner))
     (follows : (ts rest : Tokens) (a : Part Stmt) → Below statement ts rest a → EndsStmt ts)
@@ -217,7 +213,7 @@ module _ (Below Below' : Inner → Between Stmt) (below : Inner → Reader Stmt)
       (λ ts p is. found_by rows.let (let_stmt_is_read.finds ts p is))))))))
 
   inner_over_is_read : (inner : Inner) → IsRead (InnerOver Below inner) (InnerOver Below' inner) (inner_over below limit inner) (suc limit) (EndsInner inner)
-  inner_over_is_read statement = record { reads = stmt_over_reads; finds = stmt_over_finds; }
+  inner_over_is_read statement = record { reads = stmt_over_reads; finds = stmt_over_finds }
   inner_over_is_read conditional = behind_is_read if_is_read (word "if")
 
 -- the knot
