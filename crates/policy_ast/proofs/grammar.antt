@@ -8,6 +8,8 @@ pub mod FieldLaws
 pub mod ReadingExpressions
 pub mod ExpressionFacts
 pub mod Ends
+pub mod PatternLaws
+pub mod PrimaryLaws
 pub mod ExpressionLaws
 pub mod ReadingStatements
 pub mod StatementFacts

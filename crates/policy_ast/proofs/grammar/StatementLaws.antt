@@ -23,11 +23,12 @@ use Rattle.policy_ast.specs.grammar.Statements.{ArmOver, BlockOver, ElseOver, If
 use Rattle.policy_ast.specs.Words.{is_reserved}
 use Rattle.policy_ast.proofs.grammar.Ends.{EndsPattern, EndsWhole, before_close_brace, ends_before_brace}
 use Rattle.policy_ast.proofs.grammar.ExpressionFacts.{expr_parts}
-use Rattle.policy_ast.proofs.grammar.ExpressionLaws.{arguments_are_read, binds_are_read, expr_is_read, keys_are_read, let_is_read, pattern_is_read}
+use Rattle.policy_ast.proofs.grammar.ExpressionLaws.{expr_is_read}
 use Rattle.policy_ast.proofs.grammar.Facts.{AreParts, forward, not_after, unclosed}
 use Rattle.policy_ast.proofs.grammar.FieldLaws.{name_is_read, not_word, pattern_literal_is_read, pattern_literal_parts}
 use Rattle.policy_ast.proofs.grammar.Laws.{Always, Finds, IsRead, behind_is_read, empty_is_read, ends_before, found_by, made_is_read, node_above, node_is_read, on_finds, optional_is_read, pair_is_read, starts_with}
 use Rattle.policy_ast.proofs.grammar.Loops.{chained_is_read, list_is_added, many_is_read}
+use Rattle.policy_ast.proofs.grammar.PatternLaws.{arguments_are_read, binds_are_read, keys_are_read, let_is_read, pattern_is_read}
 use Rattle.policy_ast.proofs.grammar.Reading.{Reader, after, listed, making, many, noded}
 use Rattle.policy_ast.proofs.grammar.ReadingExpressions.{bind_over, let_over, pattern_over, read_expr}
 use Rattle.policy_ast.proofs.grammar.ReadingStatements.{arm_over, block_over, else_over, if_over, inner_over, map_over, match_over, read_alternatives, read_arm_pattern, read_block, read_create, read_delete, read_finish_block, read_finish_call, read_finish_stmt, read_head, read_stmt, read_update, read_whole, stmt_over}
