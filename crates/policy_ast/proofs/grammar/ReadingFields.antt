@@ -31,11 +31,14 @@ read_quoted _ = None
 abbrev pub named : {A : Type 0} → (Part (List ℕ) → Reader A) → Reader A → Reader A
 named row other ts = chosen (read_name ts) (other ts) (λ a. row a.0 a.1)
 
+abbrev pub read_truth : Reader Literal
+read_truth = on (word "true") (making (λ none. literal.True) read_empty) (on (word "false") (making (λ none. literal.False) read_empty) nothing)
+
 -- a literal that begins with no name
 abbrev pub read_constant : Reader Literal
 read_constant (token.Number n ∷ ts) = Some (part (literal.Number n) 0, ts)
 read_constant (token.Quoted text ∷ ts) = Some (part (literal.Text text) 0, ts)
-read_constant ts = on (word "true") (making (λ none. literal.True) read_empty) (on (word "false") (making (λ none. literal.False) read_empty) nothing) ts
+read_constant ts = read_truth ts
 
 abbrev pub read_variant : Part (List ℕ) → Reader Literal
 read_variant a = making (λ t. literal.Variant t.0 t.1) (paired a (behind path read_name))

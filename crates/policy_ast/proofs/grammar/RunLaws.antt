@@ -60,16 +60,16 @@ same_run ts other ys (policies.more {mid = mid} {x = x} {xs = xs} is others) (su
     a_run : List Item → Tokens → List Item × Tokens
     a_run zs r = (zs, r)
 
-run_shorter : (ts rest : Tokens) (xs : List Item) → IsRun ts rest xs → length rest ≤ length ts
+pub run_shorter : (ts rest : Tokens) (xs : List Item) → IsRun ts rest xs → length rest ≤ length ts
 run_shorter ts rest xs policies.done = omega arith
 run_shorter ts rest xs (policies.more {mid = mid} {x = x} {xs = ys} is others) = let p = item_shorter ts mid x is in let q = run_shorter mid rest ys others in omega (arith, p, q)
 
 -- the whole
-pub read_policy : Tokens → List Item × Tokens
-read_policy ts = read_items (length ts) [] ts
-
-spelled_is_read : (ts : Tokens) (xs : List Item) → Spells ts xs → read_items (length ts) [] ts ≡ (xs, [])
+pub spelled_is_read : (ts : Tokens) (xs : List Item) → Spells ts xs → read_items (length ts) [] ts ≡ (xs, [])
 spelled_is_read ts xs is = same_run ts [] xs is (length ts) [] (omega arith) (omega arith)
+
+pub read_is_run : (ts : Tokens) (p : List Item × Tokens) → read_items (length ts) [] ts ≡ p → IsRun ts p.1 p.0
+read_is_run ts p is = let found = read_run (length ts) [] ts in subst (λ q. IsRun ts q.1 q.0) is (subst (λ xs. IsRun ts (read_items (length ts) [] ts).1 xs) (sym found.all) found.run)
 
 pub spelled_once : (ts : Tokens) (a b : List Item) → Spells ts a → Spells ts b → a ≡ b
 spelled_once ts a b first second = ap (λ p. p.0) (sym (spelled_is_read ts a first) ∙ spelled_is_read ts b second)
@@ -87,7 +87,7 @@ longest_is_read ts rest run = sym (ap (λ p. p.1) (same_run ts rest run.items ru
 pub longest_once : (ts a b : Tokens) → LongestRun ts a → LongestRun ts b → a ≡ b
 longest_once ts a b first second = longest_is_read ts a first ∙ sym (longest_is_read ts b second)
 
-run_length : (ts rest : Tokens) (xs : List Item) → IsRun ts rest xs → length xs ≤ length ts
+pub run_length : (ts rest : Tokens) (xs : List Item) → IsRun ts rest xs → length xs ≤ length ts
 run_length ts rest xs policies.done = omega arith
 run_length ts rest xs (policies.more {mid = mid} {x = x} {xs = ys} is others) = let p = item_shorter ts mid x is in let q = run_length mid rest ys others in omega (arith, p, q)
 

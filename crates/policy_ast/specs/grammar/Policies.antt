@@ -1,5 +1,5 @@
 -- A policy, and the place of a syntax fault.
-use Rattle.std.specs.Prelude.{ℕ, ◌≤◌, List, [], ◌∷◌, length, map}
+use Rattle.std.specs.Prelude.{◌≡◌, ℕ, ◌-◌, ◌<◌, ◌≤◌, List, [], ◌∷◌, length, map, slice_get, Some, option_map}
 use Rattle.policy_ast.specs.declared.item.Item.{Item}
 use Rattle.policy_ast.specs.declared.token.Token.{Token}
 use Rattle.policy_ast.specs.grammar.Items.{IsItemTree}
@@ -30,3 +30,10 @@ pub record LongestRun (ts rest : Tokens) : Type 0 where
 -- the kinds of tokens, which alone the grammar looks at
 abbrev pub kinds : List Token → Tokens
 kinds tokens = map (λ t. t.kind) tokens
+
+-- the line of a syntax fault: that of the first token behind the longest run, where so many tokens stand as are left behind it
+pub record IsFaultLine (tokens : List Token) (line : ℕ) : Type 0 where
+  pub rest : Tokens
+  pub run : LongestRun (kinds tokens) rest
+  pub left : 0 < length rest
+  pub at : option_map (λ t. t.line) (slice_get tokens (length tokens - length rest)) ≡ Some line
