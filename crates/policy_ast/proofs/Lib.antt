@@ -1,2 +1,3 @@
--- What serves proofs alone, and the definitions of tokens tried on small documents.
+-- Lemmas about the definitions of this crate, and these tried on small documents.
 mod DocumentRows
+pub mod grammar

@@ -1,0 +1,28 @@
+use Rattle.std.proofs.Common.{◌-◌, ◌+◌, length, sym, ◌∙◌, arith}
+use Rattle.policy_ast.specs.grammar.Fixed.{close_brace}
+use Rattle.policy_ast.specs.grammar.Parts.{part}
+use Rattle.policy_ast.specs.grammar.Policies.{kinds}
+use Rattle.policy_ast.proofs.grammar.ReadingStatements.{read_finish_stmt}
+use Rattle.policy_parse.proofs.Turns.{many_ends, many_full, many_goes_on, many_missing}
+use Rattle.policy_parse.proofs.finish.finish_stmts.Goals as goal
+
+pub returns-in-Some : goal.returns-in-Some
+returns-in-Some c =
+    sym (many_ends close_brace (read_finish_stmt c.args.depth) (length c.args.tokens.now - c.loop.counter) (part c.loop.found c.loop.height) (kinds c.loop.rest.now) (kinds c.in-Some.behind.now) (omega (arith, c.loop-test.true)) c.in-Some.ensures)
+    ∙ c.loop.invariant
+
+pub returns-in_default-2 : goal.returns-in_default-2
+returns-in_default-2 c =
+    sym (many_missing close_brace (read_finish_stmt c.args.depth) (length c.args.tokens.now - c.loop.counter) (part c.loop.found c.loop.height) (kinds c.loop.rest.now) (omega (arith, c.loop-test.true)) c.in_default.ensures (rw c.in_default-2.is at c.in_ok-one.ensures))
+    ∙ c.loop.invariant
+
+pub loop-preserved : goal.loop-preserved
+loop-preserved c =
+    rw (c.in_ok-push.ensures.ok, c.higher-height.ensures)
+    (sym (many_goes_on close_brace (read_finish_stmt c.args.depth) (length c.args.tokens.now - c.loop.counter) (length c.args.tokens.now - (c.loop.counter + 1)) (part c.loop.found c.loop.height) (kinds c.loop.rest.now) (kinds c.in-Some-2.behind.now) c.in-Some-2.one (omega (arith, c.loop-test.true)) c.in_default.ensures (rw c.in-Some-2.is at c.in_ok-one.ensures))
+    ∙ c.loop.invariant)
+
+pub returns : goal.returns
+returns c =
+    sym (many_full close_brace (read_finish_stmt c.args.depth) (length c.args.tokens.now - c.loop.counter) (part c.loop.found c.loop.height) (kinds c.loop.rest.now) (omega (arith, c.loop-test.false)))
+    ∙ c.loop.invariant

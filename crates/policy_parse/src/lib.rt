@@ -1,0 +1,17 @@
+//! Reads a policy from its tokens.
+#![tactic(auto)]
+
+mod arms;
+mod expressions;
+mod finish;
+mod items;
+mod literals;
+mod operators;
+mod parts;
+mod policy;
+mod sections;
+mod statements;
+mod tokens;
+mod types;
+
+pub use policy::{SyntaxFault, parse};
