@@ -1,31 +1,32 @@
--- Readings and outcomes: there is one, and no other.
-use Rattle.std.proofs.Common.{◌≡◌, ℕ, List, Option, Some, None, refl, sym, ap, ◌∙◌}
+-- Words over files have one outcome, and no other.
+use Rattle.std.proofs.Common.{◌≡◌, ℕ, List, Option, Some, None, Ok, Err, refl, sym, ap, ◌∙◌}
 use Rattle.outside.specs.Files.{Holding}
-use Rattle.policy_ast.specs.DocumentTokens.{document_tokens}
+use Rattle.policy_ast.specs.DocumentTokens.{Tokens, document_tokens}
 use Rattle.aranyad.specs.declared.mode.Mode.{Mode}
 use Rattle.aranyad.specs.declared.mode.Mode.TheVariants.{Run}
 use Rattle.aranyad.specs.first.Acting.{Tagging}
-use Rattle.aranyad.specs.first.Framing.{read_document}
-use Rattle.aranyad.specs.Laws.{HasOneOutcome, HasOneReading}
+use Rattle.aranyad.specs.Laws.{HasOneOutcome}
 use Rattle.aranyad.specs.Modes.{mode_of}
-use Rattle.aranyad.specs.Outcome.{Outcome, RunsFiles, RunsMode, limited, policy_limit, script_limit, tokens_outcome}
-use Rattle.aranyad.proofs.Reader.{reading}
-use Rattle.aranyad.proofs.Readings.{one_reading}
+use Rattle.aranyad.specs.Outcome.{Outcome, RunsFiles, RunsMode, RunsTokens, limited, parse_outcome, policy_limit, script_limit}
+use Rattle.aranyad.proofs.Readings.{one_parse, some_parse}
 
-pub has_one_reading : (document : List ℕ) → HasOneReading document
-has_one_reading document = record { some = (read_document document, reading document (read_document document) refl); one = one_reading document }
+some_tokens : (told : Option Tagging) (document : List ℕ) (script : Option (Option (List ℕ))) (tokens : Tokens) → (outcome : Outcome) × RunsTokens told document script tokens outcome
+some_tokens told document script (Err fault) = (_, refl)
+some_tokens told document script (Ok tokens) = let found = some_parse tokens in (parse_outcome told document script found.0, (found.0, found.1, refl))
 
 some_files : (told : Option Tagging) (file script : Option (Option (List ℕ))) → (outcome : Outcome) × RunsFiles told file script outcome
 some_files told None script = (_, refl)
 some_files told (Some None) script = (_, refl)
-some_files told (Some (Some document)) script =
-    (tokens_outcome told (document_tokens document) document script (read_document document), (read_document document, reading document (read_document document) refl, refl))
+some_files told (Some (Some document)) script = some_tokens told document script (document_tokens document)
+
+one_tokens : (told : Option Tagging) (document : List ℕ) (script : Option (Option (List ℕ))) (tokens : Tokens) (a b : Outcome) → RunsTokens told document script tokens a → RunsTokens told document script tokens b → a ≡ b
+one_tokens told document script (Err fault) a b x y = x ∙ sym y
+one_tokens told document script (Ok tokens) a b x y = x.2 ∙ ap (parse_outcome told document script) (one_parse tokens x.0 y.0 x.1 y.1) ∙ sym y.2
 
 one_files : (told : Option Tagging) (file script : Option (Option (List ℕ))) (a b : Outcome) → RunsFiles told file script a → RunsFiles told file script b → a ≡ b
 one_files told None script a b x y = x ∙ sym y
 one_files told (Some None) script a b x y = x ∙ sym y
-one_files told (Some (Some document)) script a b x y =
-    x.2 ∙ ap (tokens_outcome told (document_tokens document) document script) (one_reading document x.0 y.0 x.1 y.1) ∙ sym y.2
+one_files told (Some (Some document)) script a b x y = one_tokens told document script (document_tokens document) a b x y
 
 some_mode : (told : Option Tagging) (at : Holding) (mode : Option Mode) → (outcome : Outcome) × RunsMode told at mode outcome
 some_mode told at None = (_, refl)

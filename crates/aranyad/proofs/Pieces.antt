@@ -29,9 +29,6 @@ append_none None = refl
 append_none (Some xs) = ap Some (append-nil xs)
 
 -- an end before anything was written
-pub front_of_none : (text : List ℕ) (old : Option (List ℕ)) → WritesFront text old old
-front_of_none text old = record { rest = text; so_far = record { part = []; whole = refl; added = sym (append_none old) } }
-
 pub stopped_at_once : (pieces : List (List ℕ)) (old : Option (List ℕ)) → StopsBetween pieces old old
 stopped_at_once pieces old = record { left = pieces; so_far = record { done = []; whole = refl; added = sym (append_none old) } }
 

@@ -2,19 +2,31 @@
 use Rattle.std.specs.Prelude.{◌≡◌, ◌⊎◌, ℕ, List, Option, None, Some, Ok, IfSome}
 use Rattle.outside.specs.Files.{Holding}
 use Rattle.policy_ast.specs.DocumentTokens.{document_tokens}
+use Rattle.policy_ast.specs.declared.item.Item.{Item as Tree}
 use Rattle.policy_ast.specs.declared.token.Token.{Token}
+use Rattle.policy_ast.specs.grammar.Policies.{Spells, kinds}
 use Rattle.aranyad.specs.declared.first.policy.SmallPolicy.{SmallPolicy}
 use Rattle.aranyad.specs.declared.mode.Mode.{Mode}
 use Rattle.aranyad.specs.declared.mode.Mode.TheVariants.{Run}
-use Rattle.aranyad.specs.first.Document.{IsSmall}
+use Rattle.aranyad.specs.first.Small.{small_policy}
 use Rattle.aranyad.specs.Outcome.{limited, policy_limit}
 
--- a document that has tokens and is a policy
+-- trees that are a small policy
+pub record AreSmall (trees : List Tree) : Type 0 where
+  pub policy : SmallPolicy
+  pub small : small_policy trees ≡ Some policy
+
+-- tokens that spell such trees
+pub record SpellSmall (tokens : List Token) : Type 0 where
+  pub trees : List Tree
+  pub spelled : Spells (kinds tokens) trees
+  pub good : AreSmall trees
+
+-- a document that has such tokens
 pub record HasPolicy (document : List ℕ) : Type 0 where
   pub tokens : List Token
   pub lexed : document_tokens document ≡ Ok tokens
-  pub policy : SmallPolicy
-  pub small : IsSmall document policy
+  pub good : SpellSmall tokens
 
 -- a file that was read within its limit, and is a policy
 pub record HoldsPolicy (file : Option (Option (List ℕ))) : Type 0 where

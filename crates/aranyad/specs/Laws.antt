@@ -1,15 +1,8 @@
 -- Laws over the definitions alone.
 use Rattle.std.specs.Prelude.{◌≡◌, ℕ, List, Option}
 use Rattle.outside.specs.Files.{Holding}
-use Rattle.aranyad.specs.declared.first.policy.SmallPolicy.{SmallPolicy}
 use Rattle.aranyad.specs.first.Acting.{Tagging}
-use Rattle.aranyad.specs.first.Document.{IsReading}
 use Rattle.aranyad.specs.Outcome.{Outcome, Runs}
-
--- a document is one small policy, or none
-pub record HasOneReading (document : List ℕ) : Type 0 where
-  pub some : (found : Option SmallPolicy) × IsReading document found
-  pub one : (a b : Option SmallPolicy) → IsReading document a → IsReading document b → a ≡ b
 
 -- words over files have one outcome, once it is said which tags the envelope tells
 pub record HasOneOutcome (told : Option Tagging) (at : Holding) (words : List (List ℕ)) : Type 0 where

@@ -1,5 +1,5 @@
 -- What a run of the program prints and how it ends: a function of the words, the files and the script's lines, once it is
--- said which policy the document is.
+-- said which items the policy's tokens spell.
 use Rattle.std.specs.Prelude.{◌≡◌, ℕ, nat_lt, if◌then◌else◌, List, [], ◌∷◌, length, codes, Option, Some, None, Result, Ok, Err, MatchResult, IfSome, ◌++◌}
 use Rattle.std.specs.List.{concat}
 use Rattle.std.specs.Option.{option_map}
@@ -9,6 +9,9 @@ use Rattle.sha2.specs.Sha256.{sha256}
 use Rattle.outside.specs.Files.{Holding}
 use Rattle.policy_ast.specs.DocumentFault.{DocumentFault, NotUtf8, NoFrontMatter, WrongVersion, OpenBlock, BadToken}
 use Rattle.policy_ast.specs.DocumentTokens.{Tokens, document_tokens}
+use Rattle.policy_ast.specs.declared.item.Item.{Item as Tree}
+use Rattle.policy_ast.specs.declared.token.Token.{Token}
+use Rattle.policy_ast.specs.grammar.Policies.{IsFaultLine, Spells, kinds}
 use Rattle.aranyad.specs.declared.mode.Mode.{Mode}
 use Rattle.aranyad.specs.declared.mode.Mode.TheVariants.{Run}
 use Rattle.aranyad.specs.declared.status.Status.{Status}
@@ -16,9 +19,9 @@ use Rattle.aranyad.specs.declared.status.Status.TheVariants as status
 use Rattle.aranyad.specs.declared.first.policy.SmallPolicy.{SmallPolicy}
 use Rattle.aranyad.specs.declared.first.script.Line.{Line}
 use Rattle.aranyad.specs.first.Acting.{Tagging}
-use Rattle.aranyad.specs.first.Document.{IsReading}
 use Rattle.aranyad.specs.first.Running.{texts}
 use Rattle.aranyad.specs.first.Script.{script_of}
+use Rattle.aranyad.specs.first.Small.{small_policy}
 use Rattle.aranyad.specs.Modes.{mode_of}
 use Rattle.aranyad.specs.Ending.{ending_status}
 use Rattle.aranyad.specs.declared.ending.Ending.{Ending}
@@ -76,23 +79,33 @@ fault_line (WrongVersion line) = policy_line (codes "wrong version") line
 fault_line (OpenBlock line) = policy_line (codes "open block") line
 fault_line (BadToken line) = policy_line (codes "bad token") line
 
-module _ (told : Option Tagging) where
-  -- a document that is no small policy is refused, before the script is read
-  abbrev pub reading_outcome : List ℕ → Option (Option (List ℕ)) → Option SmallPolicy → Outcome
-  reading_outcome document script None = refused status.PolicyRefused (codes "policy refused: unbuilt\n")
-  reading_outcome document script (Some policy) = script_outcome told (sha256 document) policy.items script
+-- the trees of the items that tokens spell, and where they spell none the line of the syntax fault
+abbrev pub IsParse : List Token → Result (List Tree) ℕ → Type 0
+IsParse tokens (Ok trees) = Spells (kinds tokens) trees
+IsParse tokens (Err line) = IsFaultLine tokens line
+
+module _ (told : Option Tagging) (document : List ℕ) (script : Option (Option (List ℕ))) where
+  -- a policy that is no small one is refused, before the script is read
+  abbrev pub policy_outcome : Option SmallPolicy → Outcome
+  policy_outcome None = refused status.PolicyRefused (codes "policy refused: unbuilt\n")
+  policy_outcome (Some policy) = script_outcome told (sha256 document) policy.items script
+
+  -- and so is a document whose tokens spell no policy
+  abbrev pub parse_outcome : Result (List Tree) ℕ → Outcome
+  parse_outcome (Err line) = refused status.PolicyRefused (policy_line (codes "syntax") line)
+  parse_outcome (Ok trees) = policy_outcome (small_policy trees)
 
   -- its tokens are judged before that
-  abbrev pub tokens_outcome : Tokens → List ℕ → Option (Option (List ℕ)) → Option SmallPolicy → Outcome
-  tokens_outcome (Err fault) document script found = refused status.PolicyRefused (fault_line fault)
-  tokens_outcome (Ok tokens) document script found = reading_outcome document script found
+  abbrev pub RunsTokens : Tokens → Outcome → Type 0
+  RunsTokens (Err fault) outcome = outcome ≡ refused status.PolicyRefused (fault_line fault)
+  RunsTokens (Ok tokens) outcome = (parse : Result (List Tree) ℕ) × IsParse tokens parse × (outcome ≡ parse_outcome parse)
 
+module _ (told : Option Tagging) where
   -- a run over the policy's file and the script's
   abbrev pub RunsFiles : Option (Option (List ℕ)) → Option (Option (List ℕ)) → Outcome → Type 0
   RunsFiles None script outcome = outcome ≡ ended status.ReadFault
   RunsFiles (Some None) script outcome = outcome ≡ refused status.TooLarge (codes "too large: policy\n")
-  RunsFiles (Some (Some document)) script outcome =
-      (found : Option SmallPolicy) × IsReading document found × (outcome ≡ tokens_outcome (document_tokens document) document script found)
+  RunsFiles (Some (Some document)) script outcome = RunsTokens told document script (document_tokens document) outcome
 
   abbrev pub RunsMode : Holding → Option Mode → Outcome → Type 0
   RunsMode at None outcome = outcome ≡ refused status.Usage usage_line

@@ -1,9 +1,5 @@
 -- What small policies and small scripts are, and what they mean.
-pub mod Spelling
-pub mod Reading
-pub mod Tokens
-pub mod Document
-pub mod Framing
+pub mod Small
 pub mod Sound
 pub mod Shapes
 pub mod Indexing
@@ -13,5 +9,4 @@ pub mod Payload
 pub mod Meaning
 pub mod Acting
 pub mod Running
-pub mod Rest
 pub mod Making

@@ -2,23 +2,20 @@
 
 pub mod acted;
 pub mod acting;
-pub mod document;
 pub mod facts;
-mod forms;
 mod index;
-mod lexer;
 pub mod lines;
 pub mod lookup;
 pub mod making;
 pub mod payload;
 pub mod policy;
 pub mod publishing;
-mod reader;
 pub mod replica;
 pub mod rows;
 pub mod script;
 mod script_line;
 pub mod script_reader;
+pub mod small;
 mod sound;
 pub mod stop;
 pub mod texts;

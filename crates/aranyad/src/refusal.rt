@@ -8,7 +8,7 @@ use policy_lex::LexFault;
 use std::alloc::Global;
 
 /// The line that is printed for a document which is refused at one of its lines.
-fn policy_line(alloc: Global, what: &str, line: u32) -> Result<Bytes, NoMemory>
+pub fn policy_line(alloc: Global, what: &str, line: u32) -> Result<Bytes, NoMemory>
     ensures { IfOk result (λ text. text ≡ policy_line what.now line) }
 {
     let number = line.to_string(alloc)?;

@@ -1,22 +1,24 @@
-ghost use Rattle.std.specs.Prelude.{◌≡◌, ◌≢◌, ◌<◌, ◌^◌, Ok, Option, Some, Err, IsTrue, IfSome, length};
+ghost use Rattle.std.specs.Prelude.{◌≡◌, ◌≢◌, ◌<◌, ◌^◌, ℕ, List, Result, Ok, Option, Some, Err, IsTrue, IfSome, length};
+ghost use Rattle.policy_ast.specs.DocumentTokens.{document_tokens};
+ghost use Rattle.policy_ast.specs.declared.item.Item.{Item as Tree};
 ghost use Rattle.aranyad.specs.Ending.{HaltsWithCause, NamesFile, counts};
-ghost use Rattle.aranyad.specs.FailedReads.{FailsOne, HasPolicy};
-ghost use Rattle.aranyad.specs.Outcome.{Outcome, RunsFiles, RunsTo, limited, policy_limit, reading_outcome, script_limit, script_outcome, tokens_outcome};
+ghost use Rattle.aranyad.specs.FailedReads.{AreSmall, FailsOne, HasPolicy, SpellSmall};
+ghost use Rattle.aranyad.specs.Outcome.{IsParse, Outcome, RunsFiles, RunsTo, RunsTokens, limited, parse_outcome, policy_limit, policy_outcome, script_limit, script_outcome};
 ghost use Rattle.aranyad.specs.declared.ending.Ending.TheVariants as ending;
 ghost use Rattle.aranyad.specs.declared.ending.Halt.TheVariants as halt;
-ghost use Rattle.aranyad.specs.declared.first.policy.SmallPolicy.{SmallPolicy};
-ghost use Rattle.aranyad.specs.first.Document.{IsReading, IsSmall};
-ghost use Rattle.policy_ast.specs.DocumentTokens.{document_tokens};
+ghost use Rattle.aranyad.specs.first.Small.{small_policy};
 ghost use Rattle.aranyad.specs.first.Sound.{is_sound};
 
 use crate::ending::{Ending, Halt};
-use crate::first::document::read_policy;
 use crate::first::policy::SmallPolicy;
-use crate::refusal::fault_line;
+use crate::first::small::small_policy;
+use crate::refusal::{fault_line, policy_line};
 use crate::run::{read_limited, refuse, run_bytes};
 use base_bytes::{Id, NoMemory, Text, sha256};
 use outside::{Envelope, Files, Sink};
+use policy_ast::{Item as Tree, Token};
 use policy_lex::tokens;
+use policy_parse::{SyntaxFault, parse};
 use std::alloc::Global;
 
 /// A policy document has at most so many bytes.
@@ -49,27 +51,57 @@ fn run_script<F: Files, E: Envelope, K: Sink>(
     }
 }
 
-/// Runs a document that has tokens, and then the script's file.
-fn run_lexed<F: Files, E: Envelope, K: Sink>(
+/// Runs a policy by the trees of its items, and then the script's file.
+fn run_trees<F: Files, E: Envelope, K: Sink>(
     alloc: Global,
     document: &[u8],
+    trees: &[Tree],
     script: Text,
     files: &mut F,
     env: &mut E,
     out: &mut K,
 ) -> Result<Ending, Halt>
-    ensures run { IfSome (F.holds files.old) (λ at. (found : Option SmallPolicy) → IsReading document.now found →
-        RunsTo result (reading_outcome E.tag_of document.now (limited script_limit (at script)) found) (K.written out.old) (K.written out.new)) }
+    ensures run { IfSome (F.holds files.old) (λ at.
+        RunsTo result (policy_outcome E.tag_of document.now (limited script_limit (at script)) (small_policy trees.now)) (K.written out.old) (K.written out.new)) }
     ensures no_usage { result ≢ Ok ending.Usage }
     ensures cause { HaltsWithCause (counts (F.faults files.old) (E.faults env.old) (K.faults out.old)) (counts (F.faults files.new) (E.faults env.new) (K.faults out.new)) result }
     ensures name { NamesFile script (F.last files.new) result }
     ensures nothing { result ≡ Err halt.Read → K.written out.new ≡ K.written out.old }
-    ensures read { result ≡ Err halt.Read → (policy : SmallPolicy) × IsSmall document.now policy }
+    ensures read { result ≡ Err halt.Read → AreSmall trees.now }
 {
-    match read_policy(alloc, document) {
+    match small_policy(alloc, trees) {
         Ok(Some(policy)) => run_script(alloc, &sha256(document), &policy, script, files, env, out),
         Ok(None) => refuse(out, Ending::PolicyRefused, b"policy refused: unbuilt\n"),
         Err(NoMemory) => Err(Halt::Memory),
+    }
+}
+
+/// Runs a document by its tokens, and then the script's file.
+fn run_tokens<F: Files, E: Envelope, K: Sink>(
+    alloc: Global,
+    document: &[u8],
+    tokens: &[Token],
+    script: Text,
+    files: &mut F,
+    env: &mut E,
+    out: &mut K,
+) -> Result<Ending, Halt>
+    requires { length tokens.now < 2 ^ 32 }
+    ensures run { IfSome (F.holds files.old) (λ at. (parse : Result (List Tree) ℕ) → IsParse tokens.now parse →
+        RunsTo result (parse_outcome E.tag_of document.now (limited script_limit (at script)) parse) (K.written out.old) (K.written out.new)) }
+    ensures no_usage { result ≢ Ok ending.Usage }
+    ensures cause { HaltsWithCause (counts (F.faults files.old) (E.faults env.old) (K.faults out.old)) (counts (F.faults files.new) (E.faults env.new) (K.faults out.new)) result }
+    ensures name { NamesFile script (F.last files.new) result }
+    ensures nothing { result ≡ Err halt.Read → K.written out.new ≡ K.written out.old }
+    ensures read { result ≡ Err halt.Read → SpellSmall tokens.now }
+{
+    match parse(alloc, tokens) {
+        Ok(policy) => run_trees(alloc, document, policy.items(), script, files, env, out),
+        Err(SyntaxFault::Syntax { item_line }) => match policy_line(alloc, "syntax", item_line) {
+            Ok(line) => refuse(out, Ending::PolicyRefused, line.as_slice()),
+            Err(NoMemory) => Err(Halt::Memory),
+        },
+        Err(SyntaxFault::NoMemory) => Err(Halt::Memory),
     }
 }
 
@@ -83,8 +115,9 @@ fn run_document<F: Files, E: Envelope, K: Sink>(
     out: &mut K,
 ) -> Result<Ending, Halt>
     requires { length document.now < 2 ^ 32 }
-    ensures run { IfSome (F.holds files.old) (λ at. (found : Option SmallPolicy) → IsReading document.now found →
-        RunsTo result (tokens_outcome E.tag_of (document_tokens document.now) document.now (limited script_limit (at script)) found) (K.written out.old) (K.written out.new)) }
+    ensures run { IfSome (F.holds files.old) (λ at. (outcome : Outcome) →
+        RunsTokens E.tag_of document.now (limited script_limit (at script)) (document_tokens document.now) outcome →
+        RunsTo result outcome (K.written out.old) (K.written out.new)) }
     ensures no_usage { result ≢ Ok ending.Usage }
     ensures cause { HaltsWithCause (counts (F.faults files.old) (E.faults env.old) (K.faults out.old)) (counts (F.faults files.new) (E.faults env.new) (K.faults out.new)) result }
     ensures name { NamesFile script (F.last files.new) result }
@@ -92,7 +125,7 @@ fn run_document<F: Files, E: Envelope, K: Sink>(
     ensures read { result ≡ Err halt.Read → HasPolicy document.now }
 {
     match tokens(alloc, document) {
-        Ok(_tokens) => run_lexed(alloc, document, script, files, env, out),
+        Ok(tokens) => run_tokens(alloc, document, tokens.as_slice(), script, files, env, out),
         Err(fault) => match fault_line(alloc, fault) {
             Ok(line) => refuse(out, Ending::PolicyRefused, line.as_slice()),
             Err(NoMemory) => Err(Halt::Memory),

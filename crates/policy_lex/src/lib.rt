@@ -19,3 +19,4 @@ mod word;
 
 pub use document::tokens;
 pub use fault::LexFault;
+pub use number::number_at;

@@ -13,7 +13,7 @@ use Rattle.aranyad.specs.declared.first.script.Line.TheVariants.{Replica, Init, 
 use Rattle.aranyad.specs.declared.first.script.Script.{Script}
 use Rattle.aranyad.specs.declared.first.script.Script.TheVariants.{Lines, Refused}
 use Rattle.aranyad.specs.first.Sound.{Name, item_named}
-use Rattle.aranyad.specs.first.Tokens.{Piece, piece_at}
+use Rattle.policy_ast.specs.TokenForms.{Piece, number_at}
 
 -- the marks that are pieces of their own
 abbrev pub is_mark : ℕ → Bool
@@ -43,14 +43,14 @@ is_replica_byte c = (nat_le (byte "a") c && nat_le c (byte "z")) || ((nat_le (by
 abbrev pub is_replica : Name → Bool
 is_replica name = list_all is_replica_byte name && not (length name == 0) && nat_le (length name) 16
 
--- a token that is a number, with nothing behind it
-abbrev pub whole_number : Option Piece → Option ℤ
-whole_number (Some (Number n, [])) = Some n
-whole_number other = None
+-- a number of so many bytes, where these are all
+abbrev pub whole_number : ℕ → Option Piece → Option ℤ
+whole_number length (Some (Number n, size)) = if size == length then Some n else None
+whole_number length other = None
 
 -- the number that a piece is, as one token of the policy language
 abbrev pub number_of : List ℕ → Option ℤ
-number_of piece = whole_number (piece_at piece)
+number_of piece = whole_number (length piece) (number_at piece)
 
 -- whether the closing mark is all that is left
 abbrev pub is_end : List (List ℕ) → Bool

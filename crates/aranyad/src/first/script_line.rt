@@ -4,10 +4,10 @@ ghost use Rattle.std.specs.Str.{IsUtf8};
 ghost use Rattle.base_bytes.specs.Words.{is_word};
 ghost use Rattle.aranyad.specs.first.Script.{arguments_of, call_line, is_end, is_mark, is_plain, is_replica, is_replica_byte, is_space, line_for, line_of, number_of, numbers_of, pieces, plain_line};
 
-use crate::first::lexer::piece_at;
 use crate::first::script::Line;
 use base_bytes::{NoMemory, Text, is_word};
 use policy_ast::TokenKind;
+use policy_lex::number_at;
 use sqlite_items::Items;
 use std::alloc::Global;
 
@@ -140,7 +140,7 @@ fn numbers_of(alloc: Global, line: &[u8]) -> Result<Option<Items<i64>>, NoMemory
     let mut numbers = Items::new(alloc);
     let mut rest = line;
     while let Some((piece, behind)) = first_piece(rest) {
-        let Some(number) = number_of(alloc, piece)? else {
+        let Some(number) = number_of(piece) else {
             return Ok(None);
         };
         numbers.push(number)?;
@@ -159,12 +159,12 @@ fn numbers_of(alloc: Global, line: &[u8]) -> Result<Option<Items<i64>>, NoMemory
 }
 
 /// The number that a piece is.
-fn number_of(alloc: Global, piece: &[u8]) -> Result<Option<i64>, NoMemory>
-    ensures { IfOk result (λ o. o ≡ number_of piece.now) }
+fn number_of(piece: &[u8]) -> Option<i64>
+    ensures { result ≡ number_of piece.now }
 {
-    match piece_at(alloc, piece)? {
-        Some((TokenKind::Number(number), [])) => Ok(Some(number)),
-        _ => Ok(None),
+    match number_at(piece) {
+        Some((TokenKind::Number(number), size)) if size == piece.len() => Some(number),
+        _ => None,
     }
 }
 

@@ -1,7 +1,7 @@
 // Documents that are refused.
 
 /// Each with its name, its text, the bytes that stand behind the text, and what is printed.
-pub const REFUSED: [(&str, &str, &[u8], &[&str]); 17] = [
+pub const REFUSED: [(&str, &str, &[u8], &[&str]); 26] = [
     // Faults of a document and their lines.
     (
         "a byte that belongs to no character",
@@ -88,7 +88,38 @@ pub const REFUSED: [(&str, &str, &[u8], &[&str]); 17] = [
         b"",
         &["policy refused: wrong version, line 2\n"],
     ),
-    // Documents that have tokens.
+    // Documents that have tokens, and spell no items.
+    (
+        "an item that isn't whole",
+        "---\npolicy-version: 2\n---\n```policy\nenum A { X }\nenum B { Y }\nenum C { Z\n: }\n```\n",
+        b"",
+        &["policy refused: syntax, line 7\n"],
+    ),
+    (
+        "tokens that begin no item",
+        "---\npolicy-version: 2\n---\n```policy\n: }\n```\n",
+        b"",
+        &["policy refused: syntax, line 5\n"],
+    ),
+    (
+        "an item that is cut off by the end of the last block",
+        "---\npolicy-version: 2\n---\n```policy\nuse a\n```\n```policy\nenum A {\n```\n",
+        b"",
+        &["policy refused: syntax, line 8\n"],
+    ),
+    (
+        "a whole item inside a broken one",
+        "---\npolicy-version: 2\n---\n```policy\nuse a\nenum B { C\nuse d\n```\n",
+        b"",
+        &["policy refused: syntax, line 6\n"],
+    ),
+    (
+        "syntax before what is small",
+        "---\npolicy-version: 2\n---\n```policy\nenum A { X }\n}\n```\n",
+        b"",
+        &["policy refused: syntax, line 6\n"],
+    ),
+    // Documents that spell items, and are no small policy.
     (
         "no block",
         "---\npolicy-version: 2\n---\n",
@@ -102,8 +133,32 @@ pub const REFUSED: [(&str, &str, &[u8], &[&str]); 17] = [
         &["policy refused: unbuilt\n"],
     ),
     (
-        "tokens that begin no item",
-        "---\npolicy-version: 2\n---\n```policy\n: }\n```\n",
+        "no command",
+        "---\npolicy-version: 2\n---\n```policy\nfact Item[n int]=>{by id}\n```\n",
+        b"",
+        &["policy refused: unbuilt\n"],
+    ),
+    (
+        "a start that is none",
+        "---\npolicy-version: 2\n---\n```policy\nfact Item[n int]=>{by id}\ncommand Start { attributes { init: false } fields { } seal { return envelope::do_seal(serialize(this)) } open { return deserialize(envelope::do_open(envelope)) } policy { finish { } } }\n```\n",
+        b"",
+        &["policy refused: unbuilt\n"],
+    ),
+    (
+        "an immutable fact",
+        "---\npolicy-version: 2\n---\n```policy\nimmutable fact Item[n int]=>{by id}\ncommand Start { attributes { init: true } fields { } seal { return envelope::do_seal(serialize(this)) } open { return deserialize(envelope::do_open(envelope)) } policy { finish { } } }\n```\n",
+        b"",
+        &["policy refused: unbuilt\n"],
+    ),
+    (
+        "a fact too many",
+        "---\npolicy-version: 2\n---\n```policy\nfact Item[n int]=>{by id}\nfact Other[n int]=>{by id}\ncommand Start { attributes { init: true } fields { } seal { return envelope::do_seal(serialize(this)) } open { return deserialize(envelope::do_open(envelope)) } policy { finish { } } }\n```\n",
+        b"",
+        &["policy refused: unbuilt\n"],
+    ),
+    (
+        "an action that publishes nothing",
+        "---\npolicy-version: 2\n---\n```policy\nfact Item[n int]=>{by id}\ncommand Start { attributes { init: true } fields { } seal { return envelope::do_seal(serialize(this)) } open { return deserialize(envelope::do_open(envelope)) } policy { finish { } } }\naction start() { }\n```\n",
         b"",
         &["policy refused: unbuilt\n"],
     ),

@@ -23,6 +23,10 @@ pub struct Row {
 pub const POLICY: &str =
     "---\npolicy-version: 2\n---\n```policy\nfact Item[n int]=>{by id}\neffect Added { n int }\ncommand Start { attributes { init: true } fields { } seal { return envelope::do_seal(serialize(this)) } open { return deserialize(envelope::do_open(envelope)) } policy { finish { } } }\ncommand Put { fields { n int } seal { return envelope::do_seal(serialize(this)) } open { return deserialize(envelope::do_open(envelope)) }\n  policy { check this.n > 0 let who = envelope::author_id(envelope)\n    finish { create Item[n: this.n]=>{by: who} emit Added { n: this.n } } } }\naction start() { publish Start { } }\naction put(n int) { publish Put { n: n } }\n```\n";
 
+/// The same items in another layout: with comments, in two blocks, with parentheses and commas that leave no trace.
+pub const OTHER_LAYOUT: &str =
+    "--- \nname: x\npolicy-version: \"2\"\n---\nText.\n````policy\naction start() { publish (Start { }) }\naction put(n int,) { publish Put { n: n, } }\n// The fact.\nfact Item[n int,]=>{by id}\n````\n```text\n;\n```\n```policy\neffect Added { n int } /* The first\ncommand. */\ncommand Start { attributes { init: true, } fields { } seal { return envelope::do_seal(serialize(this)) } open { return deserialize(envelope::do_open(envelope)) } policy { finish { } } }\ncommand Put { fields { n int } seal { return envelope::do_seal(serialize(this)) } open { return deserialize(envelope::do_open(envelope)) }\n  policy { check ((this).n > (0)) let who = (envelope::author_id(envelope))\n    finish { create Item[n: (this.n)]=>{by: who,} emit Added { n: this.n } } } }\n```\n";
+
 /// The script of the first example.
 pub const SCRIPT: &str = "replica a\ninit a start()\nact a put(7)\nfacts a\n";
 

@@ -1,5 +1,5 @@
 // Small scripts, and scripts that are refused.
-use crate::tests::rows::{ACT, FIRST, INIT, REPLICA, Row};
+use crate::tests::rows::{ACT, FIRST, INIT, OTHER_LAYOUT, REPLICA, Row};
 
 const UNCHECKED: &[&str] = &[
     REPLICA,
@@ -8,9 +8,14 @@ const UNCHECKED: &[&str] = &[
     "facts a: 0\n",
 ];
 
-pub const ROWS: [Row; 16] = [
+pub const ROWS: [Row; 17] = [
     // Scripts that run.
     FIRST,
+    Row {
+        name: "the same items in another layout",
+        policy: OTHER_LAYOUT,
+        ..FIRST
+    },
     Row {
         name: "no line",
         script: "",
