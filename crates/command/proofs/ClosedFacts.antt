@@ -34,8 +34,8 @@ bytes_of_same xs ys h = (bytes_eq-Decides xs ys).1 h
 pub held_command : (cs : List Command) (id : List ℕ) → IsHeld cs id → (c : Command) × Contains cs c × (command_id c ≡ id)
 held_command [] id h = absurd cc
 held_command (c ∷ cs) id h =
-    elim (either (bytes_eq (command_id c) id) (has_id cs id) h) [
-      | inl here ↦ (c, at_head c cs, same_bytes (command_id c) id here)
+    elim (either (bytes_eq id (command_id c)) (has_id cs id) h) [
+      | inl here ↦ (c, at_head c cs, sym (same_bytes id (command_id c) here))
       | inr later ↦ let r = held_command cs id later in (r.0, behind_head c cs r.0 r.1, r.2)
     ]
 
@@ -43,8 +43,8 @@ pub held_by : (cs : List Command) (c : Command) → Contains cs c → IsHeld cs 
 held_by [] c h = absurd (none_element c h)
 held_by (x ∷ cs) c h =
     elim (head_cases x cs c h) [
-      | inl same ↦ by_left (bytes_eq (command_id x) (command_id c)) (has_id cs (command_id c)) (bytes_of_same _ _ (ap command_id same))
-      | inr later ↦ by_right (bytes_eq (command_id x) (command_id c)) (has_id cs (command_id c)) (held_by cs c later)
+      | inl same ↦ by_left (bytes_eq (command_id c) (command_id x)) (has_id cs (command_id c)) (bytes_of_same _ _ (ap command_id (sym same)))
+      | inr later ↦ by_right (bytes_eq (command_id c) (command_id x)) (has_id cs (command_id c)) (held_by cs c later)
     ]
 
 -- one more command holds no id less

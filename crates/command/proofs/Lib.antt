@@ -3,3 +3,5 @@ pub mod ListFacts
 pub mod ClosedFacts
 pub mod AncestorFacts
 pub mod KnownAncestors
+pub mod PlaceFacts
+pub mod ReachFacts

@@ -1,6 +1,7 @@
 -- Ancestors in a list of commands. A merge is a link as every other command is.
-use Rattle.std.specs.Prelude.{◌≡◌, ℕ, ◌<◌, ◌⊎◌, ◌↔◌, true, List, length, slice_get, Some}
-use Rattle.std.specs.List.{Contains}
+use Rattle.std.specs.Prelude.{◌≡◌, ℕ, ◌+◌, ◌⊎◌, Bool, true, if◌then◌else◌, List, [], ◌∷◌, ◌++◌, slice_get, Some}
+use Rattle.std.specs.List.{Contains, list_any}
+use Rattle.std.specs.Str.{bytes_eq}
 use Rattle.command.specs.declared.command.Command.{Command}
 use Rattle.command.specs.Kinds.{is_finalize, parents_of}
 use Rattle.command.specs.Wire.{command_id}
@@ -28,16 +29,18 @@ IsAt cs place x = slice_get cs place ≡ Some x
 abbrev pub IsUnder : List Command → List ℕ → Command → Type 0
 IsUnder cs tips x = (place : ℕ) × Contains tips place × ((tip : Command) × IsAt cs place tip × IsUpTo cs tip x)
 
--- the place of a command that is no other's parent
-pub record IsHead (cs : List Command) (place : ℕ) : Type 0 where
-  pub head : Command
-  pub here : IsAt cs place head
-  pub childless : (y : Command) → IsParent cs head y → ⊥
+-- whether some command of the list has this parent
+abbrev pub is_parent : List Command → List ℕ → Bool
+is_parent cs id = list_any (λ y. list_any (bytes_eq id) (parents_of y)) cs
 
--- the places of the heads, ascending
-pub record AreHeads (cs : List Command) (places : List ℕ) : Type 0 where
-  pub heads : (place : ℕ) → Contains places place ↔ IsHead cs place
-  pub ascending : (i j : ℕ) → i < j → j < length places → (a b : ℕ) → slice_get places i ≡ Some a → slice_get places j ≡ Some b → a < b
+-- the places of those whose id passes no test, where the first stands at a place
+abbrev pub places_without : (List ℕ → Bool) → ℕ → List Command → List ℕ
+places_without test place [] = []
+places_without test place (c ∷ cs) = (if test (command_id c) then [] else place ∷ []) ++ places_without test (place + 1) cs
+
+-- the places of the commands that are no other's parent, ascending
+abbrev pub heads : List Command → List ℕ
+heads cs = places_without (is_parent cs) 0 cs
 
 -- of two finalize commands one is the other's ancestor
 abbrev pub AreInLine : List Command → Type 0

@@ -14,14 +14,14 @@ max_commands = 65536
 -- whether some command of the list has this id
 abbrev pub has_id : List Command → List ℕ → Bool
 has_id [] id = false
-has_id (c ∷ cs) id = bytes_eq (command_id c) id || has_id cs id
+has_id (c ∷ cs) id = bytes_eq id (command_id c) || has_id cs id
 
 abbrev pub IsHeld : List Command → List ℕ → Type 0
 IsHeld cs id = IsTrue (has_id cs id)
 
 -- the place, from 0, of the command with this id
 abbrev pub place_of : List Command → List ℕ → Option ℕ
-place_of cs id = position (λ c. bytes_eq (command_id c) id) cs
+place_of cs id = position (λ c. bytes_eq id (command_id c)) cs
 
 -- the command may stand behind these
 pub record IsNext (front : List Command) (c : Command) : Type 0 where

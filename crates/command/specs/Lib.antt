@@ -6,3 +6,4 @@ pub mod Each
 pub mod Closed
 pub mod Ancestors
 pub mod Laws
+pub mod Propositions

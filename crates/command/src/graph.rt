@@ -1,6 +1,6 @@
 ghost use Rattle.std.specs.Prelude.{◌≡◌, ◌+◌, ◌<◌, ◌≤◌, ◌↔◌, ℕ, List, [], ◌∷◌, ◌++◌, length, slice_get, Some, option_map, IsTrue, IfOk, OnOk};
 ghost use Rattle.std.specs.List.{Contains};
-ghost use Rattle.command.specs.Ancestors.{Ancestor, AreHeads, IsAt};
+ghost use Rattle.command.specs.Ancestors.{Ancestor, IsAt, heads};
 ghost use Rattle.command.specs.Closed.{IsClosed, IsHeld, max_commands, place_of};
 ghost use Rattle.command.specs.Kinds.{parents_of};
 ghost use Rattle.command.specs.Wire.{IsInForm, command_id};
@@ -53,7 +53,7 @@ pub trait Graph: Sized {
 
     /// The places of the commands that are no other's parent, ascending.
     fn heads(&self, alloc: Global) -> Result<Places, NoMemory>
-        ensures { IfOk result (AreHeads (commands self.now)) };
+        ensures { IfOk result (λ places. places ≡ heads (commands self.now)) };
 
     /// How many more commands can be appended without memory.
     fn spare(&self) -> usize
