@@ -13,7 +13,7 @@ use Rattle.braid.specs.Braids.{IsBraid, IsBraidOf}
 use Rattle.braid.proofs.Uniqueness.{Match, same_order}
 
 -- whether a command is a merge
-merge_cases : (c : Command) → (is_merge c ≡ true) ⊎ (is_merge c ≡ false)
+pub merge_cases : (c : Command) → (is_merge c ≡ true) ⊎ (is_merge c ≡ false)
 merge_cases c = by (is_merge c) refl
   where
     by : (b : Bool) → is_merge c ≡ b → (is_merge c ≡ true) ⊎ (is_merge c ≡ false)
@@ -44,11 +44,13 @@ module _ (cs ds : List Command) (closed : IsClosed cs) (other : IsClosed ds) (ag
   matching l m p q = record {
     same = λ x. (
       (λ h. let in_cs = (p.holds x).0 h in (q.holds x).1 ((agree.same x in_cs.2).0 in_cs.0, tt, in_cs.2)),
-      (λ h. let in_ds = (q.holds x).0 h in (p.holds x).1 ((agree.same x in_ds.2).1 in_ds.0, tt, in_ds.2)));
+      (λ h. let in_ds = (q.holds x).0 h in (p.holds x).1 ((agree.same x in_ds.2).1 in_ds.0, tt, in_ds.2)),
+    );
     agree = λ x y h k.
-        let there = (p.holds y).0 k in
-        ((λ a. ancestor_down ds cs (agree_down cs ds closed other agree) x y a ((agree.same y there.2).0 there.0)),
-        (λ a. ancestor_down cs ds (agree_down ds cs other closed (other_way cs ds agree)) x y a there.0));
+        let there = (p.holds y).0 k in (
+          (λ a. ancestor_down ds cs (agree_down cs ds closed other agree) x y a ((agree.same y there.2).0 there.0)),
+          (λ a. ancestor_down cs ds (agree_down ds cs other closed (other_way cs ds agree)) x y a there.0),
+        );
     ids = λ x y h k is. same_by_id cs closed x y ((p.holds x).0 h).0 ((p.holds y).0 k).0 is;
   }
 

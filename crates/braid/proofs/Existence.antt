@@ -53,29 +53,49 @@ module _ (cs : List Command) (closed : IsClosed cs) (rest : List Command) (insid
           ((z : Command) × Contains rest z × Ancestor cs x z) ⊎ ((z : Command) → Contains rest z → Ancestor cs x z → ⊥) →
           ((t : Command) × Contains (x ∷ these) t × IsTop cs rest t × ((z : Command) → Contains (x ∷ these) z → IsTop cs rest z → IsLower z t → ⊥)) ⊎ ((z : Command) → Contains (x ∷ these) z → IsTop cs rest z → ⊥)
       with_first (inl best) (inl below) =
-          inl (best.0, behind_head x these best.0 best.1, best.2, (λ z h top lower. elim (head_cases x these z h) [
-            | inl same ↦ top below.0 below.1 (subst (λ w. Ancestor cs w below.0) same below.2)
-            | inr later ↦ best.3 z later top lower
-          ]))
+          inl (
+            best.0,
+            behind_head x these best.0 best.1,
+            best.2,
+            (λ z h top lower. elim (head_cases x these z h) [
+              | inl same ↦ top below.0 below.1 (subst (λ w. Ancestor cs w below.0) same below.2)
+              | inr later ↦ best.3 z later top lower
+            ]),
+          )
       with_first (inr none) (inl below) =
           inr (λ z h top. elim (head_cases x these z h) [ inl same ↦ top below.0 below.1 (subst (λ w. Ancestor cs w below.0) same below.2) | inr later ↦ none z later top ])
       with_first (inr none) (inr top) =
-          inl (x, at_head x these, top, (λ z h above lower. elim (head_cases x these z h) [
-            | inl same ↦ lower_not_itself x (subst (λ w. IsLower w x) (sym same) lower)
-            | inr later ↦ none z later above
-          ]))
+          inl (
+            x,
+            at_head x these,
+            top,
+            (λ z h above lower. elim (head_cases x these z h) [
+              | inl same ↦ lower_not_itself x (subst (λ w. IsLower w x) (sym same) lower)
+              | inr later ↦ none z later above
+            ]),
+          )
       with_first (inl best) (inr top) =
           elim (lower_cases x best.0) [
             | inl lower ↦
-                inl (x, at_head x these, top, (λ z h above below. elim (head_cases x these z h) [
-                  | inl same ↦ lower_not_itself x (subst (λ w. IsLower w x) (sym same) below)
-                  | inr later ↦ best.3 z later above (lower_trans z x best.0 below lower)
-                ]))
+                inl (
+                  x,
+                  at_head x these,
+                  top,
+                  (λ z h above below. elim (head_cases x these z h) [
+                    | inl same ↦ lower_not_itself x (subst (λ w. IsLower w x) (sym same) below)
+                    | inr later ↦ best.3 z later above (lower_trans z x best.0 below lower)
+                  ]),
+                )
             | inr not_lower ↦
-                inl (best.0, behind_head x these best.0 best.1, best.2, (λ z h above below. elim (head_cases x these z h) [
-                  | inl same ↦ first_not_lower best.0 (among best.0 (behind_head x these best.0 best.1)) not_lower (subst (λ w. IsLower w best.0) (sym same) below)
-                  | inr later ↦ best.3 z later above below
-                ]))
+                inl (
+                  best.0,
+                  behind_head x these best.0 best.1,
+                  best.2,
+                  (λ z h above below. elim (head_cases x these z h) [
+                    | inl same ↦ first_not_lower best.0 (among best.0 (behind_head x these best.0 best.1)) not_lower (subst (λ w. IsLower w best.0) (sym same) below)
+                    | inr later ↦ best.3 z later above below
+                  ]),
+                )
           ]
         where
           first_not_lower : (t : Command) → Contains rest t → IsLower t x ⊎ (command_id x ≡ command_id t) → IsLower x t → ⊥
@@ -159,6 +179,7 @@ module _ (cs : List Command) (closed : IsClosed cs) where
             | inl left ↦ Contains-append_left rest placed z ((same z).1 left)
             | inr right ↦ Contains-append_right rest placed z right
           ]
+
       forth : (z : Command) (rest placed next : List Command) (t : Command) → Same rest (next ++ t ∷ []) → Contains (rest ++ placed) z → Contains (next ++ t ∷ placed) z
       forth z rest placed next t same h =
           subst (λ l. Contains l z) (append_assoc next (t ∷ []) placed)
@@ -169,10 +190,13 @@ module _ (cs : List Command) (closed : IsClosed cs) where
 
   pub some_braid : (braid : List Command) × IsBraid cs braid
   some_braid =
-      let whole = finish (length (plain cs)) (plain cs) [] (λ z h. (plain_was cs z h).0) (omega arith) tt in
-      (whole.0, record {
-        holds = λ x. (
-          (λ h. let was = plain_was cs x (subst (λ l. Contains l x) (append-nil (plain cs)) ((whole.2 x).0 h)) in (was.0, tt, was.1)),
-          (λ h. (whole.2 x).1 (subst (λ l. Contains l x) (sym (append-nil (plain cs))) (plain_has cs x h.0 h.2))));
-        placed = whole.1;
-      })
+      let whole = finish (length (plain cs)) (plain cs) [] (λ z h. (plain_was cs z h).0) (omega arith) tt in (
+        whole.0,
+        record {
+          holds = λ x. (
+            (λ h. let was = plain_was cs x (subst (λ l. Contains l x) (append-nil (plain cs)) ((whole.2 x).0 h)) in (was.0, tt, was.1)),
+            (λ h. (whole.2 x).1 (subst (λ l. Contains l x) (sym (append-nil (plain cs))) (plain_has cs x h.0 h.2))),
+          );
+          placed = whole.1;
+        },
+      )

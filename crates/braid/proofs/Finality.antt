@@ -68,7 +68,8 @@ module _ (cs : List Command) (closed : IsClosed cs) (f : Command) (front behind 
                     | inr above ↦ absurd (none_behind x last above)
                   ]
             ]
-      ]));
+      ]),
+    );
     placed = each_left (IsPlaced cs) [] (front ++ f ∷ []) behind (subst (λ l. Each (IsPlaced cs) l) (sym (append_assoc front (f ∷ []) behind)) whole.placed);
   }
 

@@ -5,3 +5,8 @@ pub mod Uniqueness
 pub mod Existence
 pub mod Agreement
 pub mod Finality
+pub mod PickOrder
+pub mod Places
+pub mod Additions
+pub mod Progress
+pub mod Gathering

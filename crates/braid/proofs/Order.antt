@@ -12,7 +12,7 @@ use Rattle.command.specs.Kinds.{is_finalize, priority_of}
 use Rattle.command.specs.Wire.{command_id}
 use Rattle.braid.specs.Lower.{IsLower, rank_order}
 
-rank_total : IsTotalOrder rank_order
+pub rank_total : IsTotalOrder rank_order
 rank_total = then_total (on_total is_finalize bool_cmp_total) (then_total (on_total priority_of nat_cmp_total) (on_total command_id (back_total nat_list_cmp_total)))
 
 second_equal : (a b : Ordering) → ordering_then a b ≡ Equal → b ≡ Equal

@@ -97,6 +97,7 @@ module _ (cs : List Command) (closed : IsClosed cs) (rest : List Command) (insid
         | inl same ↦ subst (λ w. Contains (without (command_id y) rest ++ y ∷ []) w) (same_by_id cs closed y z (inside y here) (inside z h) same) (Contains-push (without (command_id y) rest) y)
         | inr differs ↦ Contains-append_left (without (command_id y) rest) (y ∷ []) z (without_has (command_id y) rest z h differs)
       ]
+
       fro : Contains (without (command_id y) rest ++ y ∷ []) z → Contains rest z
       fro h = elim (Contains-push_cases (without (command_id y) rest) y z h) [
         | inl older ↦ without_was (command_id y) rest z older
@@ -104,9 +105,11 @@ module _ (cs : List Command) (closed : IsClosed cs) (rest : List Command) (insid
       ]
 
   pub taking : (placed : List Command) → EachAfter (IsPlaced cs) rest placed → IsTop cs rest y → ((z : Command) → Contains rest z → IsTop cs rest z → IsLower z y → ⊥) → EachAfter (IsPlaced cs) (without (command_id y) rest) (y ∷ placed)
-  taking placed order top lowest =
-      (record {
-        once = λ h. without_differs (command_id y) rest y h refl;
-        above = λ z h. top z ((taken_same z).1 h);
-        lowest = λ z h above. lowest z (without_was (command_id y) rest z h) (λ w among. above w ((taken_same w).0 among));
-      }, each_same cs rest (without (command_id y) rest ++ y ∷ []) placed taken_same order)
+  taking placed order top lowest = (
+    record {
+      once = λ h. without_differs (command_id y) rest y h refl;
+      above = λ z h. top z ((taken_same z).1 h);
+      lowest = λ z h above. lowest z (without_was (command_id y) rest z h) (λ w among. above w ((taken_same w).0 among));
+    },
+    each_same cs rest (without (command_id y) rest ++ y ∷ []) placed taken_same order,
+  )

@@ -60,7 +60,8 @@ module _ (cs ds : List Command) where
         (λ h. elim (Contains-push_cases l x z ((match.same z).1 (Contains-append_left n (y ∷ []) z h))) [
           | inl older ↦ older
           | inr last ↦ absurd (q.once (subst (λ w. Contains n w) (sym last ∙ same_last) h))
-        ]));
+        ]),
+      );
       agree = λ a b h k. match.agree a b (Contains-append_left l (x ∷ []) a h) (Contains-append_left l (x ∷ []) b k);
       ids = λ a b h k. match.ids a b (Contains-append_left l (x ∷ []) a h) (Contains-append_left l (x ∷ []) b k);
     }
