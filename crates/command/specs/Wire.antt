@@ -97,3 +97,7 @@ pub record IsWire (command : Command) (told : List ℕ) : Type 0 where
   pub front : HasFront command
   pub tag : HasTag command
   pub spelled : told ≡ wire command
+
+-- The command is in the wire form.
+abbrev pub IsFormed : Command → Type 0
+IsFormed command = IsWire command (wire command)

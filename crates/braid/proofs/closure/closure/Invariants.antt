@@ -1,0 +1,13 @@
+use Rattle.std.proofs.Common.{◌≡◌, ℕ, ◌-◌, ◌<◌, ◌≤◌, length, take}
+use Rattle.std.specs.List.{All, Contains}
+use Rattle.command.specs.Ancestors.{IsAt, IsParent, IsUnder}
+use Rattle.command.specs.declared.command.Command.{Command}
+use Rattle.braid.specs.Working.{IsAmong}
+use Rattle.braid.proofs.Gathering.{Gathered}
+use Rattle.braid.proofs.closure.closure.Given as goal
+
+abbrev pub invariant-loop-place : goal.invariant-loop-place
+invariant-loop-place g l = Gathered (g.G.Graph.commands l.graph) l.tips l.seen l.places.keys
+
+abbrev pub decreases-loop-place : goal.decreases-loop-place
+decreases-loop-place g l = length (g.G.Graph.commands l.graph) - l.seen

@@ -1,0 +1,22 @@
+ghost use Rattle.std.specs.Prelude.{◌≡◌, true, List};
+ghost use Rattle.std.specs.List.{Contains};
+ghost use Rattle.command.specs.Ancestors.{AreInLine};
+ghost use Rattle.command.specs.Closed.{IsClosed};
+ghost use Rattle.command.specs.Kinds.{is_finalize};
+ghost use Rattle.command.specs.declared.command.Command.{Command};
+ghost use Rattle.braid.specs.Agreeing.{Agree, HasOneBraid, HaveOneBraid, IsFinal};
+
+/// Each closed list of commands has exactly one braid.
+pub fn lists_have_one_braid()
+    ensures { (commands : List Command) → IsClosed commands → HasOneBraid commands }
+{}
+
+/// Closed lists that agree have the same braid, whatever their merges and the orders in which they stand.
+pub fn agreeing_lists_have_one_braid()
+    ensures { (one other : List Command) → IsClosed one → IsClosed other → Agree one other → HaveOneBraid one other }
+{}
+
+/// The braid of a finalize's closure begins the whole braid, where finalize commands are in line.
+pub fn finalize_is_final()
+    ensures { (commands : List Command) (f : Command) → IsClosed commands → AreInLine commands → Contains commands f → is_finalize f ≡ true → IsFinal commands f }
+{}

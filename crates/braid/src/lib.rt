@@ -1,0 +1,11 @@
+//! The braid of a graph of commands, and its laws.
+#![tactic(auto)]
+
+mod children;
+mod closure;
+mod laws;
+mod lowest;
+mod ordering;
+
+pub use laws::{agreeing_lists_have_one_braid, finalize_is_final, lists_have_one_braid};
+pub use ordering::braid;

@@ -1,0 +1,7 @@
+-- Lemmas that the proofs of this crate and of those above share.
+pub mod ListFacts
+pub mod ClosedFacts
+pub mod AncestorFacts
+pub mod KnownAncestors
+pub mod PlaceFacts
+pub mod ReachFacts

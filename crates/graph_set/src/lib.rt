@@ -1,0 +1,7 @@
+//! A graph of commands as one list, with an index of their ids.
+#![tactic(auto)]
+
+mod list_graph;
+mod parents;
+
+pub use list_graph::ListGraph;

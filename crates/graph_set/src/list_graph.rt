@@ -1,0 +1,154 @@
+ghost use Rattle.std.specs.Prelude.{◌≡◌, ◌≤◌, ◌<◌, ◌+◌, [], ◌∷◌, ◌++◌, IsOk, IfOk, OnOk, map};
+ghost use Rattle.command.specs.Closed.{IsHeld};
+ghost use Rattle.command.specs.Wire.{IsFormed, IsInForm, command_id};
+ghost use Rattle.graph_set.specs.Held.{IsGraph, graph_prop};
+ghost use Rattle.indexmap.specs.IndexMap.{keys, spare, values};
+
+use crate::parents::{add_head, add_parents, go_on, has_parent_among};
+use base_bytes::{Id, NoMemory};
+use command::{Command, Graph, Places, id_of};
+use indexmap::{IndexMap, IndexSet};
+use std::alloc::Global;
+
+/// A graph as the list of its commands, each under its id.
+#[derive(Drop)]
+pub struct ListGraph {
+    commands: IndexMap<Id, Command>,
+    room: usize,
+    ghost graph: { IsGraph (keys commands) (values commands) } by { graph_prop (keys commands) (values commands) },
+    ghost roomy: { room ≤ spare commands },
+}
+
+/// Puts a command behind the others, under its id, which none of them has.
+fn put(commands: &mut IndexMap<Id, Command>, command: Command) -> Result<(), NoMemory>
+    requires formed { IsInForm command }
+    requires named { keys commands.old ≡ map command_id (values commands.old) }
+    requires fresh { IsHeld (values commands.old) (command_id command) → ⊥ }
+    ensures succeeds { 0 < spare commands.old → IsOk result }
+    ensures formed { OnOk result (IsFormed command) }
+    ensures keys { OnOk result (keys commands.new ≡ map command_id (values commands.new)) }
+    ensures values { OnOk result (values commands.new ≡ values commands.old ++ command ∷ []) }
+    ensures spare { spare commands.old ≤ spare commands.new + 1 }
+{
+    let id = id_of(&command);
+    commands.insert(id, command)?;
+    Ok(())
+}
+
+impl ListGraph {
+    ghost use Rattle.std.specs.Prelude.{ℕ, Bool, List};
+    ghost use Rattle.std.specs.List.{list_any};
+    ghost use Rattle.std.specs.Str.{bytes_eq};
+    ghost use Rattle.command.specs.Ancestors.{is_parent, places_without};
+
+    /// The ids of all parents.
+    fn parents(&self, alloc: Global) -> Result<IndexSet<Id>, NoMemory>
+        ensures { IfOk result (λ ids. (id : List ℕ) → list_any (bytes_eq id) ids.keys ≡ is_parent (values self.now.commands) id) }
+    {
+        let mut parents = IndexSet::new(alloc);
+        for place in 0..self.len() {
+            add_parents(&mut parents, self.at(place))?;
+        }
+        Ok(parents)
+    }
+
+    /// The places of the commands whose ids aren't among these.
+    fn places_without(&self, alloc: Global, ids: &IndexSet<Id>) -> Result<Places, NoMemory>
+        ensures { IfOk result (λ places. places ≡ places_without (λ id. list_any (bytes_eq id) ids.now.keys) 0 (values self.now.commands)) }
+    {
+        let mut places = Places::new(alloc);
+        for place in 0..self.len() {
+            add_head(&mut places, ids, &self.id_at(place), place)?;
+        }
+        Ok(places)
+    }
+}
+
+impl Graph for ListGraph {
+    ghost use Rattle.indexmap.specs.IndexMap.{values};
+
+    ghost commands = { λ graph. values graph.commands };
+
+    ghost room = { λ graph. graph.room };
+
+    ghost closed = { λ graph. graph.graph.closed };
+
+    ghost few = { λ graph. graph.graph.few };
+
+    fn empty(alloc: Global) -> Result<ListGraph, NoMemory> {
+        Ok(ListGraph {
+            commands: IndexMap::new(alloc),
+            room: 0,
+        })
+    }
+
+    fn len(&self) -> usize {
+        self.commands.len()
+    }
+
+    fn at(&self, place: usize) -> &Command {
+        match self.commands.get_index(place) {
+            Some((_, command)) => command,
+            None => unreachable!(),
+        }
+    }
+
+    fn id_at(&self, place: usize) -> Id {
+        match self.commands.get_index(place) {
+            Some((id, _)) => *id,
+            None => unreachable!(),
+        }
+    }
+
+    fn place_of(&self, id: &Id) -> Option<usize> {
+        self.commands.get_index_of(id)
+    }
+
+    fn is_ancestor(&self, alloc: Global, older: usize, newer: usize) -> Result<bool, NoMemory> {
+        if newer <= older {
+            return Ok(false);
+        }
+        let mut reached = IndexSet::new(alloc);
+        reached.insert(self.id_at(older))?;
+        for place in older..newer {
+            go_on(&mut reached, self.at(place), &self.id_at(place))?;
+        }
+        Ok(has_parent_among(&reached, self.at(newer)))
+    }
+
+    fn heads(&self, alloc: Global) -> Result<Places, NoMemory> {
+        let parents = self.parents(alloc)?;
+        self.places_without(alloc, &parents)
+    }
+
+    fn spare(&self) -> usize {
+        self.room
+    }
+
+    fn reserve(&mut self, more: usize) -> Result<(), NoMemory> {
+        if self.room < more {
+            self.commands.reserve(more)?;
+            self.room = more;
+        }
+        Ok(())
+    }
+
+    fn append(&mut self, command: Command) -> usize {
+        let place = self.commands.len();
+        match put(&mut self.commands, command) {
+            Ok(()) => {}
+            Err(NoMemory) => unreachable!(),
+        }
+        self.room -= 1;
+        place
+    }
+
+    fn copy(&self, alloc: Global) -> Result<ListGraph, NoMemory> {
+        let mut commands = IndexMap::with_capacity(alloc, self.len())?;
+        for place in 0..self.len() {
+            let command = self.at(place).copy(alloc)?;
+            put(&mut commands, command)?;
+        }
+        Ok(ListGraph { commands, room: 0 })
+    }
+}

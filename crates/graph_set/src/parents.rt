@@ -1,0 +1,69 @@
+ghost use Rattle.std.specs.Prelude.{◌≡◌, ◌||◌, if◌then◌else◌, ℕ, List, [], ◌∷◌, ◌++◌, OnOk};
+ghost use Rattle.std.specs.List.{list_any};
+ghost use Rattle.std.specs.Str.{bytes_eq};
+ghost use Rattle.command.specs.Kinds.{parents_of};
+ghost use Rattle.graph_set.specs.Held.{GoesOn, IsAdded, has_parent_among};
+
+use base_bytes::{Id, NoMemory};
+use command::{Command, Places};
+use indexmap::IndexSet;
+
+/// Whether some parent of the command is among the ids.
+pub fn has_parent_among(ids: &IndexSet<Id>, command: &Command) -> bool
+    ensures { result ≡ has_parent_among ids.now.keys command.now }
+{
+    match command {
+        Command::Init { .. } => false,
+        Command::Basic { parent, .. } => ids.contains(parent),
+        Command::Finalize { parent, .. } => ids.contains(parent),
+        Command::Merge { left, right } => ids.contains(left) || ids.contains(right),
+    }
+}
+
+/// Puts the command's id among the ids where a parent of it is there.
+pub fn go_on(ids: &mut IndexSet<Id>, command: &Command, id: &Id) -> Result<(), NoMemory>
+    ensures { OnOk result (GoesOn ids.old.keys command.now id.now ids.new.keys) }
+{
+    if has_parent_among(ids, command) {
+        add(ids, id)?;
+    }
+    Ok(())
+}
+
+/// Puts the parents of the command among the ids.
+pub fn add_parents(ids: &mut IndexSet<Id>, command: &Command) -> Result<(), NoMemory>
+    ensures { OnOk result ((id : List ℕ) → list_any (bytes_eq id) ids.new.keys ≡ (list_any (bytes_eq id) ids.old.keys || list_any (bytes_eq id) (parents_of command.now))) }
+{
+    match command {
+        Command::Init { .. } => {}
+        Command::Basic { parent, .. } => add(ids, parent)?,
+        Command::Finalize { parent, .. } => add(ids, parent)?,
+        Command::Merge { left, right } => {
+            add(ids, left)?;
+            add(ids, right)?;
+        }
+    }
+    Ok(())
+}
+
+fn add(ids: &mut IndexSet<Id>, one: &Id) -> Result<(), NoMemory>
+    ensures { OnOk result (IsAdded ids.old.keys one.now ids.new.keys) }
+{
+    ids.insert(*one)?;
+    Ok(())
+}
+
+/// Adds the place of a command with this id, where it is no parent.
+pub fn add_head(
+    heads: &mut Places,
+    parents: &IndexSet<Id>,
+    id: &Id,
+    place: usize,
+) -> Result<(), NoMemory>
+    ensures { OnOk result (heads.new ≡ heads.old ++ (if list_any (bytes_eq id.now) parents.now.keys then [] else place ∷ [])) }
+{
+    if !parents.contains(id) {
+        heads.push(place)?;
+    }
+    Ok(())
+}
