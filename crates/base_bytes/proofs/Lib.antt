@@ -1,0 +1,9 @@
+pub mod Rooms
+pub mod InOrder
+pub mod Texts
+pub mod Formats
+pub mod Depths
+pub mod ValueFormats
+pub mod Codes
+pub mod Chains
+pub mod Payloads
