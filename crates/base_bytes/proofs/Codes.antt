@@ -1,10 +1,12 @@
 -- A form with a reading is unambiguous, and a reading to the end answers as the form asks.
-use Rattle.std.proofs.Common.{◌≡◌, ℕ, List, [], ◌++◌, Option, Some, Result, Ok, Err, refl, sym, ap, ◌∙◌}
+use Rattle.std.proofs.Common.{◌≡◌, ◌==◌, ℕ, Bool, true, false, List, [], ◌++◌, length, Option, Some, None, Result, Ok, Err, refl, sym, ap, ◌∙◌}
 use Rattle.std.specs.Prelude.{IfOk, IfSome, IfNone}
-use Rattle.std.proofs.lemmas.List.{append-nil}
+use Rattle.std.specs.Option.{option_and_then}
+use Rattle.std.proofs.lemmas.Bool.{eqb-true}
+use Rattle.std.proofs.lemmas.List.{append-nil, nil_from_length}
 use Rattle.std.proofs.lemmas.Option.{some_pair_parts}
 use Rattle.base_bytes.specs.Laws.{IsUnambiguous}
-use Rattle.base_bytes.specs.Reading.{Reading, ReadsAll, or_none}
+use Rattle.base_bytes.specs.Reading.{Reading, Reads, ReadsAll, ended, inside, or_none}
 use Rattle.base_bytes.specs.declared.unread.Unread.{Unread}
 use Rattle.base_bytes.specs.declared.unread.Unread.TheVariants as unread
 
@@ -44,3 +46,17 @@ module _ {A : Type 0} (answer : Result A Unread) (found : Option (A × List ℕ)
       none_by (Ok x) is = tt
       none_by (Err unread.Malformed) is = λ x in_form. is x (form x in_form)
       none_by (Err unread.NoMemory) is = tt
+
+not_ended : {A : Type 0} (found : Option (A × List ℕ)) → ((x : A) → found ≡ Some (x, []) → ⊥) → option_and_then ended found ≡ None
+not_ended None refused = refl
+not_ended {A} (Some found) refused = by_test (length found.1 == 0) refl
+  where
+    by_test : (b : Bool) → (length found.1 == 0) ≡ b → ended found ≡ None
+    by_test true is = absurd (refused found.0 (ap (λ z. let both : A × List ℕ = (found.0, z) in Some both) (nil_from_length found.1 (eqb-true _ _ is))))
+    by_test false is = rw is refl
+
+-- a piece that is read to its end
+pub reads_inside : {A : Type 0} (answer : Result A Unread) (piece : Reading (List ℕ)) (read : Reading A) (bytes told rest : List ℕ) → piece bytes ≡ Some (told, rest) → ReadsAll answer (read told) → Reads (λ x. x) answer rest (inside piece read bytes)
+reads_inside (Ok x) piece read bytes told rest found is = rw (found, is) refl
+reads_inside (Err unread.Malformed) piece read bytes told rest found is = rw (found, not_ended (read told) is) refl
+reads_inside (Err unread.NoMemory) piece read bytes told rest found is = tt

@@ -1,13 +1,14 @@
 -- A form of bytes and a reading that agree, and the ways to make such pairs from smaller ones.
-use Rattle.std.proofs.Common.{◌≡◌, ℕ, suc, ◌%◌, ◌==◌, ◌^◌, ◌<◌, ◌≤◌, Bool, true, false, cond, ltb, List, [], ◌∷◌, ◌++◌, length, get_or, take, drop, Option, Some, None, option_map, refl, sym, ap, subst, ◌∙◌, append_assoc, arith, inl, inr}
+use Rattle.std.proofs.Common.{◌≡◌, ℕ, zero, suc, nat_lt, nat_le, replicate, map, ◌%◌, ◌==◌, ◌^◌, ◌<◌, ◌≤◌, Bool, true, false, cond, ltb, List, [], ◌∷◌, ◌++◌, length, get_or, take, drop, Option, Some, None, option_map, refl, sym, ap, subst, ◌∙◌, append_assoc, arith, inl, inr}
 use Rattle.std.specs.Int.{Width, w8, w16, w32, w64, byte_len, from_be_bytes, to_be_bytes}
+use Rattle.std.specs.List.{AllByRecursion, concat}
 use Rattle.std.specs.Option.{option_and_then}
-use Rattle.std.proofs.lemmas.Bool.{eqb-true, cases_lt, ltb-false, le-ltb}
+use Rattle.std.proofs.lemmas.Bool.{leb-true, le-leb, ltb-true, eq-eqb, eqb-true, cases_lt, ltb-false, le-ltb}
 use Rattle.std.proofs.lemmas.List.{append-nil, nil_from_length, take_at, drop_at, take-append-drop, length-append, length-take, get_or-take, get_or_past}
 use Rattle.std.proofs.lemmas.Nat.{be_bytes_2, be_bytes_4, be_bytes_8, from_be_bytes-to_be_bytes_2, from_be_bytes-to_be_bytes_4, from_be_bytes-to_be_bytes_8}
 use Rattle.std.proofs.lemmas.Option.{same_Some}
-use Rattle.base_bytes.specs.Pieces.{counted}
-use Rattle.base_bytes.specs.Reading.{ended, inside, Reading, bytes_at, counted_at, followed, made, number_at, pair, passing}
+use Rattle.base_bytes.specs.Pieces.{counted, flag, listed}
+use Rattle.base_bytes.specs.Reading.{flag_at, listed_at, in_order, behind, ended, inside, Reading, bytes_at, counted_at, followed, made, number_at, pair, passing}
 
 -- each number is a byte
 abbrev pub AreBytes : List ℕ → Type 0
@@ -213,3 +214,50 @@ module _ {A : Type 0} {IsForm : A → Type 0} {spelled : A → List ℕ} {read :
         subst (λ (q : A × List ℕ). (bytes ≡ counted w (spelled q.0) ++ q.1) × (IsForm q.0 × (length (spelled q.0) < limit))) same
         (t.0 ∙ ap (λ told. counted w told ++ piece.1) piece_is, (u.1, subst (λ told. length told < limit) piece_is t.1))))));
   }
+
+-- behind a byte that must stand there
+module _ {A : Type 0} {IsForm : A → Type 0} {spelled : A → List ℕ} {read : Reading A} (byte : ℕ) (small : byte < 2 ^ 8) (format : IsFormat IsForm spelled read) where
+  one_byte : (n : ℕ) → n ≡ byte → to_be_bytes w8 n ≡ byte ∷ []
+  one_byte n same = let whole : n % 256 ≡ byte = omega (arith, same, small) in ap (λ b. b ∷ []) whole
+
+  pub behind_format : IsFormat IsForm (λ x. byte ∷ spelled x) (behind byte read)
+  behind_format = made_format (pair_format (passing_format (number_format wide_8) (λ it. it == byte)) format) IsForm (λ x. byte ∷ spelled x) (λ both. both.1)
+      (λ x is. ((byte, x), refl, ((small, eq-eqb byte byte refl), is))) (λ both is are. is.1) (λ both is. ap (λ told. told ++ spelled both.1) (sym (one_byte both.0 (eqb-true _ _ is.0.1))))
+
+-- ---- truths and lists
+
+flag_back : (truth : Bool) → (byte : ℕ) × ((byte == 1) ≡ truth) × ((byte < 2 ^ 8) × (nat_lt byte 2 ≡ true))
+flag_back true = (1, refl, (omega arith, refl))
+flag_back false = (0, refl, (omega arith, refl))
+
+flag_same : (byte : ℕ) → nat_lt byte 2 ≡ true → flag (byte == 1) ≡ to_be_bytes w8 byte
+flag_same zero is = refl
+flag_same (suc zero) is = refl
+flag_same (suc (suc byte)) is = let lt : suc (suc byte) < 2 = ltb-true _ _ is in absurd (omega (arith, lt))
+
+pub flag_format : IsFormat (λ truth. Unit {0}) flag flag_at
+flag_format = made_format (passing_format (number_format wide_8) (λ byte. nat_lt byte 2)) (λ truth. Unit {0}) flag (λ byte. byte == 1) (λ truth is. flag_back truth) (λ byte is are. tt) (λ byte is. flag_same byte is.1)
+
+module _ {A : Type 0} {IsForm : A → Type 0} {spelled : A → List ℕ} {read : Reading A} (format : IsFormat IsForm spelled read) where
+  abbrev AreSo : ℕ → List A → Type 0
+  AreSo count all = (length all ≡ count) × AllByRecursion IsForm all
+
+  none_back : (all : List A) → AreSo 0 all → all ≡ []
+  none_back [] is = refl
+  none_back (x ∷ all) is = absurd (omega (arith, is.0))
+
+  one_back : (count : ℕ) (all : List A) → AreSo (suc count) all → (both : A × List A) × ((both.0 ∷ both.1) ≡ all) × (IsForm both.0 × AreSo count both.1)
+  one_back count [] is = absurd (omega (arith, is.0))
+  one_back count (x ∷ all) is = ((x, all), refl, (is.1.0, (omega (arith, is.0), is.1.1)))
+
+  repeated_format : (count : ℕ) → IsFormat (AreSo count) (λ all. concat (map spelled all)) (in_order (replicate count read))
+  repeated_format zero = record {
+    again = λ all rest is. rw (none_back all is) refl;
+    takes = λ bytes p are is. subst (λ (q : List A × List ℕ). (bytes ≡ concat (map spelled q.0) ++ q.1) × AreSo 0 q.0) (same_Some ([], bytes) p is) (refl, (refl, tt));
+  }
+  repeated_format (suc count) = made_format (pair_format format (repeated_format count)) (AreSo (suc count)) (λ all. concat (map spelled all)) (λ both. both.0 ∷ both.1)
+      (one_back count) (λ both is are. (omega (arith, is.1.0), (is.0, is.1.1))) (λ both is. refl)
+
+  pub listed_format : {w : Width} {limit : ℕ} (wide : IsWide w limit) (most : ℕ) → most < limit → IsFormat (λ all. (length all ≤ most) × AllByRecursion IsForm all) (listed w spelled) (listed_at w most read)
+  listed_format {w} wide most small = told_format (followed_format (passing_format (number_format wide) (λ count. nat_le count most)) repeated_format length (λ count all is. is.0))
+      (λ all. (length all ≤ most) × AllByRecursion IsForm all) (listed w spelled) (λ all is. ((omega (arith, is.0, small), le-leb _ _ is.0), (refl, is.1))) (λ all is are. (leb-true _ _ is.0.1, is.1.1)) (λ all. refl)

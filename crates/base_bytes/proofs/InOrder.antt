@@ -1,5 +1,5 @@
 -- Values read in order, as a loop reads them: what was read so far is in front of what is read of the rest.
-use Rattle.std.proofs.Common.{◌≡◌, ℕ, ◌+◌, ◌<◌, List, [], ◌∷◌, ◌++◌, length, get_or, drop, map, Option, Some, None, option_map, refl, sym, ap, ◌∙◌, append_assoc}
+use Rattle.std.proofs.Common.{◌≡◌, ℕ, suc, ◌-◌, ◌≤◌, replicate, ◌+◌, ◌<◌, List, [], ◌∷◌, ◌++◌, length, get_or, drop, map, Option, Some, None, option_map, refl, sym, ap, ◌∙◌, append_assoc, arith}
 use Rattle.std.proofs.lemmas.List.{append-nil, at_drop_more}
 use Rattle.base_bytes.specs.Reading.{Reading, in_order}
 
@@ -31,3 +31,17 @@ next_read {A} read types i ty front x bytes after total within is found so_far =
     let cut = at_drop_more (λ left. with_front front (in_order (map read left) bytes)) types i ty within in
     let here = ap (λ it. with_front front (in_order (map read (it ∷ drop (i + 1) types)) bytes)) is in
     one_more front (read ty) (map read (drop (i + 1) types)) bytes total x after found (here ∙ sym cut ∙ so_far)
+
+-- so many values read in one way
+module _ {A : Type 0} (read : Reading A) (count i : ℕ) (front : List A) (bytes : List ℕ) (total : Option (List A × List ℕ)) (so_far : with_front front (in_order (replicate (count - i) read) bytes) ≡ total) where
+  cut : i < count → with_front front (in_order (read ∷ replicate (count - (i + 1)) read) bytes) ≡ total
+  cut within = let left : suc (count - (i + 1)) ≡ count - i = omega arith in ap (λ k. with_front front (in_order (replicate k read) bytes)) left ∙ so_far
+
+  pub next_repeated : (x : A) (after : List ℕ) → i < count → read bytes ≡ Some (x, after) → with_front (front ++ x ∷ []) (in_order (replicate (count - (i + 1)) read) after) ≡ total
+  next_repeated x after within found = one_more front read (replicate (count - (i + 1)) read) bytes total x after found (cut within)
+
+  pub none_repeated : i < count → read bytes ≡ None → total ≡ None
+  none_repeated within refused = none_there front read (replicate (count - (i + 1)) read) bytes total refused (cut within)
+
+  pub all_repeated : count ≤ i → total ≡ Some (front, bytes)
+  all_repeated past = let left : count - i ≡ 0 = omega arith in all_read front bytes total (ap (λ k. with_front front (in_order (replicate k read) bytes)) (sym left) ∙ so_far)

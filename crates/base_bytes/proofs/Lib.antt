@@ -7,3 +7,4 @@ pub mod ValueFormats
 pub mod Codes
 pub mod Chains
 pub mod Payloads
+pub mod WordTexts

@@ -21,7 +21,7 @@ use Rattle.base_bytes.specs.declared.value.Value.{Value, out-Value, roll-Value, 
 use Rattle.base_bytes.specs.declared.value.Value.TheOpen.{Value-F}
 use Rattle.base_bytes.specs.declared.value.Value.TheVariants as value
 use Rattle.base_bytes.proofs.Depths.{depth, depth_layer}
-use Rattle.base_bytes.proofs.Formats.{AreBytes, AreBytes-behind, AreBytes-rest, IsFormat, bind_then, bytes_format, counted_format, made_format, map_then, number_format, pair_format, passing_format, some_of, told_format, wide_8, wide_16, wide_32, wide_64}
+use Rattle.base_bytes.proofs.Formats.{AreBytes, AreBytes-behind, AreBytes-rest, IsFormat, bind_then, bytes_format, counted_format, flag_format, made_format, map_then, number_format, pair_format, passing_format, some_of, told_format, wide_8, wide_16, wide_32, wide_64}
 use Rattle.base_bytes.proofs.Rooms.{greatest}
 
 and_then : {P : Type 0} (a b : Bool) → (a && b) ≡ true → (a ≡ true → b ≡ true → P) → P
@@ -87,19 +87,12 @@ module _ (shapes : Shapes) where
   int_layer : (n : ℕ) → LayerFormat n Ty-F.Int (made value.Int (made (cast_signed w64) (number_at w64)))
   int_layer n = layer_format n Ty-F.Int int_format value.Int Value-F.Int value.rolls-Int (λ y is le. int_back y is) (λ a is are. (is, omega arith)) (λ a is. refl)
 
-  bool_back : (y : Value-F Value) → has_parts y Ty-F.Bool ≡ true → (a : ℕ) × (Value-F.Bool (a == 1) ≡ y) × ((a < 2 ^ 8) × (nat_lt a 2 ≡ true))
-  bool_back (Value-F.Bool true) is = (1, refl, (omega arith, refl))
-  bool_back (Value-F.Bool false) is = (0, refl, (omega arith, refl))
+  bool_back : (y : Value-F Value) → has_parts y Ty-F.Bool ≡ true → (a : Bool) × (Value-F.Bool a ≡ y) × Unit {0}
+  bool_back (Value-F.Bool a) is = (a, refl, tt)
   bool_back _ is = absurd (false≢true is)
 
-  bool_same : (a : ℕ) → nat_lt a 2 ≡ true → spelling_layer (Value-F.Bool (a == 1)) ≡ to_be_bytes w8 a
-  bool_same zero is = refl
-  bool_same (suc zero) is = refl
-  bool_same (suc (suc a)) is = let lt : suc (suc a) < 2 = ltb-true _ _ is in absurd (omega (arith, lt))
-
   bool_layer : (n : ℕ) → LayerFormat n Ty-F.Bool bool_at
-  bool_layer n = layer_format n Ty-F.Bool (passing_format (number_format wide_8) (λ byte. nat_lt byte 2)) (λ byte. value.Bool (byte == 1)) (λ byte. Value-F.Bool (byte == 1)) (λ byte. value.rolls-Bool (byte == 1))
-      (λ y is le. bool_back y is) (λ a is are. (refl, omega arith)) (λ a is. bool_same a is.1)
+  bool_layer n = layer_format n Ty-F.Bool flag_format value.Bool Value-F.Bool value.rolls-Bool (λ y is le. bool_back y is) (λ a is are. (refl, omega arith)) (λ a is. refl)
 
   text_back : (y : Value-F Value) → has_parts y Ty-F.Str ≡ true → (a : List ℕ) × (Value-F.Str a ≡ y) × ((length a < 2 ^ 32) × (is_utf8 a ≡ true))
   text_back (Value-F.Str a) is = and_then (is_utf8 a) (nat_lt (length a) (2 ^ 32)) is (λ utf8 short. (a, refl, (ltb-true _ _ short, utf8)))

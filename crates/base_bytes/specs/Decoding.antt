@@ -1,8 +1,8 @@
 -- How a value of a type is read. This serves the contracts of the decoder and the proofs alone: what a payload is stands in Payload.
-use Rattle.std.specs.Prelude.{ℕ, zero, suc, ◌==◌, nat_lt, List, map, Some, None}
+use Rattle.std.specs.Prelude.{ℕ, zero, suc, List, map, Some, None}
 use Rattle.std.specs.Int.{w8, w16, w32, w64, cast_signed}
 use Rattle.std.specs.Str.{is_utf8}
-use Rattle.base_bytes.specs.Reading.{Reading, bytes_at, counted_at, followed, in_order, made, number_at, passing}
+use Rattle.base_bytes.specs.Reading.{Reading, bytes_at, counted_at, flag_at, followed, in_order, made, number_at, passing}
 use Rattle.base_bytes.specs.Values.{is_variant, shape_at}
 use Rattle.base_bytes.specs.declared.shapes.Shape.{Shape}
 use Rattle.base_bytes.specs.declared.shapes.Shape.TheVariants as shape
@@ -16,7 +16,7 @@ abbrev pub int_at : Reading Value
 int_at = made value.Int (made (cast_signed w64) (number_at w64))
 
 abbrev pub bool_at : Reading Value
-bool_at = made (λ byte. value.Bool (byte == 1)) (passing (λ byte. nat_lt byte 2) (number_at w8))
+bool_at = made value.Bool flag_at
 
 abbrev pub text_at : Reading Value
 text_at = made value.Str (passing is_utf8 (counted_at w32))

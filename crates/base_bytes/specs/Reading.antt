@@ -1,5 +1,5 @@
 -- How a reader goes through bytes from the left. What a form is stands apart, in Pieces and Payload; the laws in proofs/ say that the two agree.
-use Rattle.std.specs.Prelude.{◌≡◌, ℕ, ◌==◌, nat_lt, Bool, if◌then◌else◌, List, [], ◌∷◌, length, take, drop, Option, Some, None, option_map, Result, Ok, Err, ⊤}
+use Rattle.std.specs.Prelude.{◌≡◌, ℕ, ◌==◌, nat_lt, nat_le, replicate, Bool, if◌then◌else◌, List, [], ◌∷◌, length, take, drop, Option, Some, None, option_map, Result, Ok, Err, ⊤}
 use Rattle.std.specs.Int.{Width, w8, byte_len, from_be_bytes}
 use Rattle.std.specs.Option.{option_and_then}
 use Rattle.base_bytes.specs.declared.no_memory.NoMemory.{NoMemory}
@@ -60,6 +60,14 @@ number_at width = made (from_be_bytes width) (bytes_at (byte_len width))
 -- A length, and that many bytes.
 abbrev pub counted_at : Width → Reading (List ℕ)
 counted_at width = followed (number_at width) bytes_at
+
+-- A truth.
+abbrev pub flag_at : Reading Bool
+flag_at = made (λ byte. byte == 1) (passing (λ byte. nat_lt byte 2) (number_at w8))
+
+-- A number, at most so great, and so many values.
+abbrev pub listed_at : {A : Type 0} → Width → ℕ → Reading A → Reading (List A)
+listed_at width most read = followed (passing (λ count. nat_le count most) (number_at width)) (λ count. in_order (replicate count read))
 
 -- The byte that must stand there, and what is read behind it.
 abbrev pub behind : {A : Type 0} → ℕ → Reading A → Reading A

@@ -4,7 +4,7 @@ ghost use Rattle.base_bytes.specs.Payload.{IsPayload};
 ghost use Rattle.base_bytes.specs.Reaching.{NoneReachesItself};
 ghost use Rattle.base_bytes.specs.Reading.{Reads, ReadsAll};
 ghost use Rattle.base_bytes.specs.Values.{is_variant, shape_at};
-ghost use Rattle.base_bytes.specs.Decoding.{bool_at, struct_at, text_at, raw_at, optional_at, value_at, values_at, variant_at};
+ghost use Rattle.base_bytes.specs.Decoding.{struct_at, text_at, raw_at, optional_at, value_at, values_at, variant_at};
 
 use crate::{Bytes, NoMemory, Reader, Shape, Shapes, Text, Ty, Unread, Value, Values, or_none};
 use sqlite_items::{Boxed, Items};
@@ -46,7 +46,7 @@ fn read_value(
 {
     match ty {
         Ty::Int => Ok(Value::Int(reader.i64()?)),
-        Ty::Bool => read_bool(reader),
+        Ty::Bool => Ok(Value::Bool(reader.flag()?)),
         Ty::Str => read_text(alloc, reader),
         Ty::Raw => read_raw(alloc, reader),
         Ty::Ident => Ok(Value::Ident(reader.id()?)),
@@ -114,16 +114,6 @@ fn read_values(
         values.push(read_value(alloc, shapes, depth, ty, reader)?)?;
     }
     Ok(values)
-}
-
-fn read_bool(reader: &mut Reader) -> Result<Value, Unread>
-    ensures { Reads (λ value. value) result reader.new (bool_at reader.old) }
-{
-    match reader.u8()? {
-        0 => Ok(Value::Bool(false)),
-        1 => Ok(Value::Bool(true)),
-        _ => Err(Unread::Malformed),
-    }
 }
 
 fn read_text(alloc: Global, reader: &mut Reader) -> Result<Value, Unread>

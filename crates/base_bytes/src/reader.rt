@@ -1,6 +1,6 @@
 ghost use Rattle.std.specs.Prelude.{◌≡◌, ◌↔◌, [], length, IsOk, IfOk, IfErr};
 ghost use Rattle.std.specs.Int.{w8, w16, w32, w64, cast_signed};
-ghost use Rattle.base_bytes.specs.Reading.{Reads, bytes_at, counted_at, made, number_at};
+ghost use Rattle.base_bytes.specs.Reading.{Reads, bytes_at, counted_at, flag_at, made, number_at};
 
 use crate::{Id, Unread};
 use std::marker::Model;
@@ -46,6 +46,17 @@ impl<'a> Reader<'a> {
     {
         let bytes = self.take(1)?;
         Ok(u8::from_be_bytes([bytes[0]]))
+    }
+
+    /// A truth in one byte: 0 or 1.
+    pub fn flag(&mut self) -> Result<bool, Unread>
+        ensures { Reads (λ truth. truth) result self.new (flag_at self.old) }
+    {
+        match self.u8()? {
+            0 => Ok(false),
+            1 => Ok(true),
+            _ => Err(Unread::Malformed),
+        }
     }
 
     pub fn u16(&mut self) -> Result<u16, Unread>

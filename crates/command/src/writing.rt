@@ -9,15 +9,15 @@ use crate::pieces::Pieces;
 use base_bytes::{Bytes, Id, Tag, Text};
 
 /// The version of the form.
-const VERSION: u8 = 1;
+pub const VERSION: u8 = 1;
 
-const INIT: u8 = 0;
+pub const INIT: u8 = 0;
 
-const BASIC: u8 = 1;
+pub const BASIC: u8 = 1;
 
-const FINALIZE: u8 = 2;
+pub const FINALIZE: u8 = 2;
 
-const MERGE: u8 = 3;
+pub const MERGE: u8 = 3;
 
 fn write_id<P: Pieces>(out: &mut P, id: &Id) -> Result<(), P::Refusal>
     ensures told { OnOk result (Adds P.holds out.old id.now out.new) }

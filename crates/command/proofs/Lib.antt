@@ -1,0 +1,3 @@
+pub mod CommandFormats
+pub mod WireLaws
+pub mod WireSizes
