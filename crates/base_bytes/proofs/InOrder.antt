@@ -1,7 +1,9 @@
 -- Values read in order, as a loop reads them: what was read so far is in front of what is read of the rest.
-use Rattle.std.proofs.Common.{◌≡◌, ℕ, suc, ◌-◌, ◌≤◌, replicate, ◌+◌, ◌<◌, List, [], ◌∷◌, ◌++◌, length, get_or, drop, map, Option, Some, None, option_map, refl, sym, ap, ◌∙◌, append_assoc, arith}
+use Rattle.std.proofs.Common.{◌≡◌, ℕ, suc, ◌-◌, ◌≤◌, replicate, ◌+◌, ◌<◌, List, [], ◌∷◌, ◌++◌, length, get_or, drop, map, Option, Some, None, Err, option_map, refl, sym, ap, ◌∙◌, append_assoc, arith}
 use Rattle.std.proofs.lemmas.List.{append-nil, at_drop_more}
-use Rattle.base_bytes.specs.Reading.{Reading, in_order}
+use Rattle.base_bytes.specs.Reading.{Reading, Reads, in_order}
+use Rattle.base_bytes.specs.declared.unread.Unread.{Unread}
+use Rattle.base_bytes.specs.declared.unread.Unread.TheVariants as unread
 
 abbrev pub with_front : {A : Type 0} → List A → Option (List A × List ℕ) → Option (List A × List ℕ)
 with_front front found = option_map (λ p. (front ++ p.0, p.1)) found
@@ -45,3 +47,8 @@ module _ {A : Type 0} (read : Reading A) (count i : ℕ) (front : List A) (bytes
 
   pub all_repeated : count ≤ i → total ≡ Some (front, bytes)
   all_repeated past = let left : count - i ≡ 0 = omega arith in all_read front bytes total (ap (λ k. with_front front (in_order (replicate k read) bytes)) (sym left) ∙ so_far)
+
+  -- a reading that is refused refuses the whole
+  pub refused_repeated : {X Y : Type 0} (view : X → A) (view_too : Y → List A) (error : Unread) (rest rest_too : List ℕ) → i < count → Reads view (Err error) rest (read bytes) → Reads view_too (Err error) rest_too total
+  refused_repeated view view_too unread.Malformed rest rest_too within refused = none_repeated within refused
+  refused_repeated view view_too unread.NoMemory rest rest_too within refused = tt
