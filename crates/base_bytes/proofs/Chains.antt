@@ -1,9 +1,10 @@
 -- Where no struct reaches itself, no more structs nest in a value than there are items.
-use Rattle.std.proofs.Common.{◌≡◌, ℕ, zero, suc, ◌<◌, ◌≤◌, Bool, true, false, ◌&&◌, ◌||◌, ◌==◌, eqb, List, [], ◌∷◌, length, map, refl, sym, ap, subst, ◌∙◌, arith, inl, inr}
+use Rattle.std.proofs.Common.{◌≡◌, ℕ, zero, suc, ◌<◌, ◌≤◌, Bool, true, false, ◌==◌, eqb, List, [], ◌∷◌, length, map, refl, sym, ap, subst, ◌∙◌, arith, inl, inr}
 use Rattle.std.specs.List.{AllByRecursion, IsDistinct, list_any}
 use Rattle.std.proofs.lemmas.Bool.{cases_lt, eqb-true, false≢true}
 use Rattle.std.proofs.lemmas.Map.Steps.{length-le_from_distinct_below}
 use Rattle.std.proofs.lemmas.Option.{slice_get_past}
+use Rattle.base_bytes.proofs.Bools.{and_then, either, or_left, or_right}
 use Rattle.base_bytes.specs.Reaching.{Holds, NoneReachesItself, Reaches, directly, through, field_types, has_struct, has_struct_layer}
 use Rattle.base_bytes.specs.Values.{are_fields, has_layer, has_type, hold_in_order, shape_at}
 use Rattle.base_bytes.specs.declared.shapes.Shape.{Shape}
@@ -15,21 +16,6 @@ use Rattle.base_bytes.specs.declared.value.Value.{Value, roll-Value, fold-roll-V
 use Rattle.base_bytes.specs.declared.value.Value.TheOpen.{Value-F}
 use Rattle.base_bytes.proofs.Depths.{depth, depth_layer}
 use Rattle.base_bytes.proofs.Rooms.{greatest}
-
-and_then : {P : Type 0} (a b : Bool) → (a && b) ≡ true → (a ≡ true → b ≡ true → P) → P
-and_then true b is go = go refl is
-and_then false b is go = absurd (false≢true is)
-
-either : {P : Type 0} (a b : Bool) → (a || b) ≡ true → (a ≡ true → P) → (b ≡ true → P) → P
-either true b is one other = one refl
-either false b is one other = other is
-
-or_left : (a b : Bool) → a ≡ true → (a || b) ≡ true
-or_left a b is = rw is refl
-
-or_right : (a b : Bool) → b ≡ true → (a || b) ≡ true
-or_right true b is = refl
-or_right false b is = is
 
 module _ (shapes : Shapes) where
   abbrev HoldsFirst : ℕ → List ℕ → Type 0

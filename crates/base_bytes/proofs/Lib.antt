@@ -1,3 +1,4 @@
+pub mod Bools
 pub mod Rooms
 pub mod InOrder
 pub mod Texts
@@ -8,3 +9,5 @@ pub mod Codes
 pub mod Chains
 pub mod Payloads
 pub mod WordTexts
+pub mod ShortValues
+pub mod Rows

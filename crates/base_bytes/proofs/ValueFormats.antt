@@ -1,5 +1,5 @@
 -- The spelling of values and the decoder's reading agree, type by type.
-use Rattle.std.proofs.Common.{◌≡◌, ℕ, zero, suc, ◌^◌, ◌<◌, ◌≤◌, ℤ, pos, negsuc, Bool, true, false, ◌&&◌, ◌==◌, List, [], ◌∷◌, ◌++◌, length, map, Some, None, refl, sym, ap, subst, ◌∙◌, arith, nat_lt}
+use Rattle.std.proofs.Common.{◌≡◌, ℕ, zero, suc, ◌^◌, ◌<◌, ◌≤◌, ℤ, pos, negsuc, Bool, true, ◌==◌, List, [], ◌∷◌, ◌++◌, length, map, Some, None, refl, sym, ap, subst, ◌∙◌, arith, nat_lt}
 use Rattle.std.specs.Int.{w8, w32, w64, cast_signed, cast_unsigned, to_be_bytes}
 use Rattle.std.specs.Str.{is_utf8}
 use Rattle.std.proofs.lemmas.Bool.{false≢true, eqb-true, eq-eqb, ltb-true, lt-ltb}
@@ -8,6 +8,7 @@ use Rattle.std.proofs.lemmas.Option.{same_Some}
 use Rattle.std.proofs.Math.Facts.{Fits-bits, Fits-of_z, sfits_to_z}
 use Rattle.std.specs.Int.RustNames.{FitsSigned}
 use Rattle.std.specs.List.{list_all}
+use Rattle.base_bytes.proofs.Bools.{and_then, and_both}
 use Rattle.base_bytes.specs.Decoding.{bool_at, id_at, raw_at, text_at, variant_at, fields_by, inner_at, layer_at, optional_at, struct_at, value_at}
 use Rattle.base_bytes.specs.Payload.{spelling, spelling_all, spelling_layer}
 use Rattle.base_bytes.specs.Reading.{Reading, in_order, made, number_at}
@@ -23,13 +24,6 @@ use Rattle.base_bytes.specs.declared.value.Value.TheVariants as value
 use Rattle.base_bytes.proofs.Depths.{depth, depth_layer}
 use Rattle.base_bytes.proofs.Formats.{AreBytes, AreBytes-behind, AreBytes-rest, IsFormat, bind_then, bytes_format, counted_format, flag_format, made_format, map_then, number_format, pair_format, passing_format, some_of, told_format, wide_8, wide_16, wide_32, wide_64}
 use Rattle.base_bytes.proofs.Rooms.{greatest}
-
-and_then : {P : Type 0} (a b : Bool) → (a && b) ≡ true → (a ≡ true → b ≡ true → P) → P
-and_then true b is go = go refl is
-and_then false b is go = absurd (false≢true is)
-
-and_both : (a b : Bool) → a ≡ true → b ≡ true → (a && b) ≡ true
-and_both a b is is_too = rw (is, is_too) refl
 
 -- ---- ints
 

@@ -1,9 +1,10 @@
 -- The forms of messages and their readings agree.
-use Rattle.std.proofs.Common.{◌≡◌, ℕ, ◌+◌, ◌^◌, ◌<◌, ◌≤◌, nat_le, nat_lt, Bool, true, false, ◌&&◌, All, List, ◌++◌, length, refl, append_assoc, arith, IsTrue}
+use Rattle.std.proofs.Common.{◌≡◌, ℕ, ◌+◌, ◌^◌, ◌<◌, ◌≤◌, nat_le, nat_lt, Bool, true, false, All, List, ◌++◌, length, refl, append_assoc, arith, IsTrue}
 use Rattle.std.specs.Int.{w8, w32, to_be_bytes}
 use Rattle.std.specs.List.{AllByRecursion}
 use Rattle.std.proofs.lemmas.Bool.{false≢true, leb-true, le-leb, lt-ltb, ltb-true}
 use Rattle.std.proofs.lemmas.List.Elements.{All-from_recursion, recursion_from_All}
+use Rattle.base_bytes.proofs.Bools.{and_then}
 use Rattle.base_bytes.specs.Pieces.{flag, listed}
 use Rattle.base_bytes.proofs.Formats.{IsFormat, behind_format, bytes_format, flag_format, inside_format, listed_format, made_format, number_format, pair_format, passing_format, told_format, wide_8, wide_32}
 use Rattle.command.specs.Reading.{counted_command_at}
@@ -65,10 +66,6 @@ IsResponseForm response = IsResponseInForm response × HaveIds response.graph re
 
 abbrev of_response : Response → Parts
 of_response response = ((response.graph, (response.sample, response.from)), (response.more, response.commands))
-
-and_then : {P : Type 0} (a b : Bool) → (a && b) ≡ true → (a ≡ true → b ≡ true → P) → P
-and_then true b is go = go refl is
-and_then false b is go = absurd (false≢true is)
 
 place_is : (from : ℕ) (more : Bool) (count : ℕ) → from + count ≤ 65536 → (IsTrue more → 0 < count) → have_place from more count ≡ true
 place_is from true count near some = rw (le-leb _ _ near, lt-ltb _ _ (some refl)) refl
