@@ -1,23 +1,20 @@
 -- The spelling of a value in a payload. All numbers are big-endian.
-use Rattle.std.specs.Prelude.{◌≡◌, ℕ, ◌^◌, Bool, true, IsTrue, if◌then◌else◌, nat_lt, List, [], ◌∷◌, ◌++◌, length, map}
+use Rattle.std.specs.Prelude.{◌≡◌, ℕ, ◌^◌, Bool, true, IsTrue, nat_lt, List, [], ◌∷◌, length, map}
 use Rattle.std.specs.Int.{w16, w32, w64, to_be_bytes, cast_unsigned}
 use Rattle.std.specs.List.{concat, list_all}
 use Rattle.base_bytes.specs.declared.shapes.Shapes.{Shapes}
 use Rattle.base_bytes.specs.declared.ty.Ty.{Ty}
 use Rattle.base_bytes.specs.declared.value.Value.{Value, fold-Value}
 use Rattle.base_bytes.specs.declared.value.Value.TheOpen.{Value-F}
+use Rattle.base_bytes.specs.Pieces.{counted, flag}
 use Rattle.base_bytes.specs.Values.{has_type}
-
--- A length in four bytes, and the bytes.
-abbrev pub counted : List ℕ → List ℕ
-counted bytes = to_be_bytes w32 (length bytes) ++ bytes
 
 -- One layer, where each value inside is given by its spelling: an int is 8 bytes in two's complement, an enum its ordinal, an optional 0, or 1 and the value, a struct its fields.
 abbrev pub spelling_layer : Value-F (List ℕ) → List ℕ
 spelling_layer (Value-F.Int n) = to_be_bytes w64 (cast_unsigned w64 n)
-spelling_layer (Value-F.Bool b) = (if b then 1 else 0) ∷ []
-spelling_layer (Value-F.Str text) = counted text
-spelling_layer (Value-F.Raw bytes) = counted bytes
+spelling_layer (Value-F.Bool b) = flag b
+spelling_layer (Value-F.Str text) = counted w32 text
+spelling_layer (Value-F.Raw bytes) = counted w32 bytes
 spelling_layer (Value-F.Ident id) = id
 spelling_layer (Value-F.Enum item ordinal) = to_be_bytes w16 ordinal
 spelling_layer (Value-F.Struct item fields) = concat fields

@@ -1,5 +1,7 @@
 ghost use Rattle.std.specs.Prelude.{◌≡◌, ◌++◌, ◌<◌, ◌^◌, length, take, IsTrue, OnOk, OnErr};
-ghost use Rattle.base_bytes.specs.Payload.{counted, spelling, spelling_all, is_short, are_short};
+ghost use Rattle.std.specs.Int.{w32};
+ghost use Rattle.base_bytes.specs.Pieces.{counted};
+ghost use Rattle.base_bytes.specs.Payload.{spelling, spelling_all, is_short, are_short};
 
 use crate::{Bytes, NoMemory, Value};
 
@@ -54,7 +56,7 @@ fn append_values(values: &[Value], into: &mut Bytes) -> Result<(), NoMemory>
 
 fn append_counted(bytes: &[u8], into: &mut Bytes) -> Result<(), NoMemory>
     requires { length bytes.now < 2 ^ 32 }
-    ensures ok { OnOk result (into.new ≡ into.old ++ counted bytes.now) }
+    ensures ok { OnOk result (into.new ≡ into.old ++ counted w32 bytes.now) }
     ensures err { OnErr result (take (length into.old) into.new ≡ into.old) }
 {
     into.extend(&(bytes.len() as u32).to_be_bytes())?;

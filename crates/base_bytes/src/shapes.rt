@@ -1,3 +1,6 @@
+ghost use Rattle.std.specs.Prelude.{◌≡◌, slice_get};
+ghost use Rattle.std.specs.Option.{option_copied};
+
 use crate::Ty;
 use sqlite_items::Items;
 
@@ -15,4 +18,13 @@ pub enum Shape {
 #[derive(Drop)]
 pub struct Shapes {
     pub items: Items<Shape>,
+}
+
+impl Shapes {
+    /// The shape of the item of this number.
+    pub fn at(&self, item: u32) -> Option<&Shape>
+        ensures { option_copied result ≡ slice_get self.now.items item }
+    {
+        sqlite_items::at(self.items.as_slice(), item as usize)
+    }
 }

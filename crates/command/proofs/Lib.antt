@@ -5,3 +5,6 @@ pub mod AncestorFacts
 pub mod KnownAncestors
 pub mod PlaceFacts
 pub mod ReachFacts
+pub mod CommandFormats
+pub mod WireLaws
+pub mod WireSizes

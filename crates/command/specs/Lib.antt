@@ -7,3 +7,4 @@ pub mod Closed
 pub mod Ancestors
 pub mod Laws
 pub mod Propositions
+pub mod Reading

@@ -1,11 +1,11 @@
 -- The form of a command as bytes, version 1. All numbers are big-endian.
 use Rattle.std.specs.Prelude.{◌≡◌, ℕ, ◌<◌, ◌≤◌, ◌^◌, IsTrue, List, [], ◌∷◌, ◌++◌, length, ⊤}
 use Rattle.std.specs.Cmp.Lexicographic.{slice_cmp}
-use Rattle.std.specs.Int.{w16, w32, to_be_bytes}
+use Rattle.std.specs.Int.{w8, w16, w32, to_be_bytes}
 use Rattle.std.specs.Ordering.{nat_cmp}
 use Rattle.std.specs.declared.cmp.Ordering.TheVariants.{Less}
 use Rattle.sha2.specs.Sha256.{sha256}
-use Rattle.base_bytes.specs.Payload.{counted}
+use Rattle.base_bytes.specs.Pieces.{counted}
 use Rattle.base_bytes.specs.Words.{is_word}
 use Rattle.command.specs.declared.command.Command.{Command}
 use Rattle.command.specs.declared.command.Command.TheVariants.{Init, Basic, Finalize, Merge}
@@ -16,7 +16,7 @@ header kind = 1 ∷ kind ∷ []
 
 -- The name with a length in two bytes, and the payload with a length in four.
 abbrev pub content : List ℕ → List ℕ → List ℕ
-content name payload = to_be_bytes w16 (length name) ++ name ++ counted payload
+content name payload = counted w16 name ++ counted w32 payload
 
 -- An init before its tag.
 abbrev pub init_body : List ℕ → List ℕ → List ℕ → List ℕ → List ℕ
@@ -41,15 +41,11 @@ body (Basic priority parent author name payload tag) = basic_body priority paren
 body (Finalize parent author name payload tag) = finalize_body parent author name payload
 body (Merge left right) = merge_body left right
 
--- A tag with its length in one byte.
-abbrev pub counted_tag : List ℕ → List ℕ
-counted_tag tag = length tag ∷ tag
-
--- What follows the body.
+-- What follows the body: the tag with its length in one byte.
 abbrev pub after_body : Command → List ℕ
-after_body (Init digest author name payload tag) = counted_tag tag
-after_body (Basic priority parent author name payload tag) = counted_tag tag
-after_body (Finalize parent author name payload tag) = counted_tag tag
+after_body (Init digest author name payload tag) = counted w8 tag
+after_body (Basic priority parent author name payload tag) = counted w8 tag
+after_body (Finalize parent author name payload tag) = counted w8 tag
 after_body (Merge left right) = []
 
 -- The bytes of a command.

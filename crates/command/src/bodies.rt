@@ -1,4 +1,4 @@
-ghost use Rattle.std.specs.Prelude.{◌≡◌, IfOk};
+ghost use Rattle.std.specs.Prelude.{◌≡◌, ◌≤◌, length, IfOk};
 ghost use Rattle.command.specs.Wire as form;
 
 use crate::command::Command;
@@ -6,10 +6,11 @@ use crate::writing::{write, write_basic, write_body, write_finalize, write_init}
 use base_bytes::{Bytes, Id, NoMemory, Text};
 use std::alloc::Global;
 
-/// The bytes of a command.
+/// The bytes of a command, of which there are at most 4,301.
 pub fn to_bytes(alloc: Global, command: &Command) -> Result<Bytes, NoMemory>
     requires { form.IsInForm command.now }
-    ensures { IfOk result (λ bytes. form.IsWire command.now bytes) }
+    ensures form { IfOk result (λ bytes. form.IsWire command.now bytes) }
+    ensures size { IfOk result (λ bytes. length bytes ≤ 4301) }
 {
     let mut bytes = Bytes::new(alloc);
     write(&mut bytes, command)?;

@@ -3,17 +3,21 @@
 
 mod bodies;
 mod command;
+mod commands;
 mod digest;
 mod graph;
 mod kinds;
 mod laws;
 mod pieces;
 mod places;
+mod reading;
 mod writing;
 
 pub use bodies::{basic_body, body_of, finalize_body, init_body, to_bytes};
 pub use command::Command;
+pub use commands::Commands;
 pub use digest::id_of;
 pub use graph::{Graph, MAX_COMMANDS};
-pub use laws::ancestors_are_older;
+pub use laws::{ancestors_are_older, commands_are_unambiguous};
 pub use places::Places;
+pub use reading::{from_bytes, read_counted};

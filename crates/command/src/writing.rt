@@ -1,6 +1,7 @@
 ghost use Rattle.std.specs.Prelude.{◌≡◌, length, ◌<◌, ◌≤◌, ◌^◌, OnOk};
 ghost use Rattle.command.specs.Taking.{Adds};
-ghost use Rattle.base_bytes.specs.Payload.{counted};
+ghost use Rattle.std.specs.Int.{w8, w32};
+ghost use Rattle.base_bytes.specs.Pieces.{counted};
 ghost use Rattle.command.specs.Wire as form;
 
 use crate::command::Command;
@@ -8,15 +9,15 @@ use crate::pieces::Pieces;
 use base_bytes::{Bytes, Id, Tag, Text};
 
 /// The version of the form.
-const VERSION: u8 = 1;
+pub const VERSION: u8 = 1;
 
-const INIT: u8 = 0;
+pub const INIT: u8 = 0;
 
-const BASIC: u8 = 1;
+pub const BASIC: u8 = 1;
 
-const FINALIZE: u8 = 2;
+pub const FINALIZE: u8 = 2;
 
-const MERGE: u8 = 3;
+pub const MERGE: u8 = 3;
 
 fn write_id<P: Pieces>(out: &mut P, id: &Id) -> Result<(), P::Refusal>
     ensures told { OnOk result (Adds P.holds out.old id.now out.new) }
@@ -37,18 +38,18 @@ fn write_content<P: Pieces>(out: &mut P, name: &Text, payload: &Bytes) -> Result
 
 fn write_payload<P: Pieces>(out: &mut P, payload: &Bytes) -> Result<(), P::Refusal>
     requires { length payload.now ≤ 4096 }
-    ensures { OnOk result (Adds P.holds out.old (counted payload.now) out.new) }
+    ensures { OnOk result (Adds P.holds out.old (counted w32 payload.now) out.new) }
 {
     out.add(&(payload.len() as u32).to_be_bytes())?;
     out.add(payload.as_slice())
 }
 
 fn write_tag<P: Pieces>(out: &mut P, tag: &Tag) -> Result<(), P::Refusal>
-    ensures told { OnOk result (Adds P.holds out.old (form.counted_tag tag.now) out.new) }
+    ensures told { OnOk result (Adds P.holds out.old (counted w8 tag.now) out.new) }
     ensures size { length tag.now ≤ 64 }
 {
     let bytes = tag.as_slice();
-    out.add(&[bytes.len() as u8])?;
+    out.add(&(bytes.len() as u8).to_be_bytes())?;
     out.add(bytes)
 }
 

@@ -4,7 +4,15 @@
 #[cfg(test)]
 mod commands;
 #[cfg(test)]
+mod cuts;
+#[cfg(test)]
+mod decoding;
+#[cfg(test)]
+mod forms;
+#[cfg(test)]
 mod keys;
+#[cfg(test)]
+mod limits;
 #[cfg(test)]
 mod lists;
 #[cfg(test)]

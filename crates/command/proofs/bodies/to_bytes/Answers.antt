@@ -1,10 +1,22 @@
 use Rattle.std.proofs.Common.{[]}
+use Rattle.command.specs.Wire.{IsWire}
+use Rattle.command.proofs.WireSizes.{wire_within}
 use Rattle.command.proofs.bodies.to_bytes.Goals as goal
 
-pub returns : goal.returns
-returns c = record {
+pub returns-clause-form : goal.returns-clause-form
+returns-clause-form c = record {
   in_form = c.requires;
   front = c.in_ok-write.ensures.front;
   tag = c.in_ok-write.ensures.tag;
   spelled = c.in_ok-write.ensures.told.more [] c.new-bytes.ensures;
 }
+
+pub returns-clause-size : goal.returns-clause-size
+returns-clause-size c =
+    let told : IsWire c.args.command.now c.write.new.out = record {
+      in_form = c.requires;
+      front = c.in_ok-write.ensures.front;
+      tag = c.in_ok-write.ensures.tag;
+      spelled = c.in_ok-write.ensures.told.more [] c.new-bytes.ensures;
+    } in
+    wire_within c.args.command.now c.write.new.out told

@@ -1,0 +1,13 @@
+pub mod Bools
+pub mod Rooms
+pub mod InOrder
+pub mod Texts
+pub mod Formats
+pub mod Depths
+pub mod ValueFormats
+pub mod Codes
+pub mod Chains
+pub mod Payloads
+pub mod WordTexts
+pub mod ShortValues
+pub mod Rows
