@@ -1,0 +1,7 @@
+-- The definitions that the contracts of this crate cite.
+pub mod Matching
+pub mod Orders
+pub mod Rows
+pub mod Sameness
+pub mod Stored
+pub mod Writes
