@@ -1,14 +1,14 @@
 -- The rows of a base stay one, whatever is written.
-use Rattle.std.proofs.Common.{◌≡◌, ℕ, Bool, true, false, ◌&&◌, not, cond, List, [], ◌∷◌, ◌++◌, map, filter, refl, sym, ap, ◌∙◌}
-use Rattle.std.proofs.lemmas.Bool.{and_from, and_parts, or_parts}
+use Rattle.std.proofs.Common.{◌≡◌, ℕ, Bool, true, false, ◌&&◌, not, cond, List, [], ◌∷◌, ◌++◌, map, filter, Ordering, Less, Equal, Greater, is_eq, is_lt, refl, sym, ap, ◌∙◌}
+use Rattle.std.proofs.lemmas.Bool.{and_from, and_parts, false≢true}
 use Rattle.std.specs.List.{list_all}
 use Rattle.base_bytes.specs.declared.value.Value.{Value}
 use Rattle.fact_store.specs.declared.row.Row.{Row}
 use Rattle.fact_store.specs.Matching.{is_at}
 use Rattle.fact_store.specs.Rows.{are_keys, is_ascending, is_base, is_before}
 use Rattle.fact_store.specs.Writes.{is_there, revalued, with_row}
-use Rattle.fact_store.proofs.Lists.{all-append, all-filter, all_pass, all_weaker, all_with}
-use Rattle.fact_store.proofs.Places.{before_trans, not_at}
+use Rattle.fact_store.proofs.Lists.{all-append, all-filter, all_pass, all_weaker, filter_all, filter_none}
+use Rattle.fact_store.proofs.Places.{before_from_Greater, before_trans, not_at, not_before, row_order, row_ties}
 
 abbrev pub has_keys : Row → Bool
 has_keys row = are_keys row.keys
@@ -97,3 +97,26 @@ module _ (fact : ℕ) (keys values : List Value) where
 -- behind a row, none is at its place
 pub none_at : (row : Row) (rows : List Row) → are_keys row.keys ≡ true → list_all (is_before row) rows ≡ true → list_all (λ other. not (is_at row.fact row.keys other)) rows ≡ true
 none_at row rows keys first = all_weaker (is_before row) (λ other. not (is_at row.fact row.keys other)) (λ other is. ap not (not_at row other keys is)) rows first
+
+-- ---- a new row goes before the first that it stands before, and behind the others
+
+pub with_row-front : (row first : Row) (rows : List Row) → is_base (first ∷ rows) ≡ true → is_before row first ≡ true → with_row row (first ∷ rows) ≡ row ∷ first ∷ rows
+with_row-front row first rows base here =
+    let parts = base_parts first rows base in
+    let all : list_all (is_before row) (first ∷ rows) ≡ true = and_from _ _ here (all_weaker (is_before first) (is_before row) (λ other more. before_trans row first other here more) rows parts.first) in
+    let none : list_all (λ other. not (is_before other row)) (first ∷ rows) ≡ true = all_weaker (is_before row) (λ other. not (is_before other row)) (λ other more. ap not (not_before row other more)) (first ∷ rows) all in
+    let front : filter (λ other. is_before other row) (first ∷ rows) ≡ [] = filter_none (λ other. is_before other row) (first ∷ rows) none in
+    let back : filter (is_before row) (first ∷ rows) ≡ first ∷ rows = filter_all (is_before row) (first ∷ rows) all in
+    λ i. front i ++ row ∷ back i
+
+pub with_row-behind : (row first : Row) (rows : List Row) → is_before first row ≡ true → with_row row (first ∷ rows) ≡ first ∷ with_row row rows
+with_row-behind row first rows here = let there : is_before row first ≡ false = not_before first row here in rw (here, there) refl
+
+-- a row of another place stands before it or behind it
+pub placed : {P : Type 0} (row other : Row) → are_keys row.keys ≡ true → is_at row.fact row.keys other ≡ false → (is_before row other ≡ true → P) → (is_before other row ≡ true → P) → P
+placed {P} row other are apart before behind = by (row_order row other) refl
+  where
+    by : (o : Ordering) → row_order row other ≡ o → P
+    by Less is = before (ap is_lt is)
+    by Equal is = absurd (false≢true (sym apart ∙ sym (row_ties row other are) ∙ ap is_eq is))
+    by Greater is = behind (before_from_Greater row other is)

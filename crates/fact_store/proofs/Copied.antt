@@ -1,6 +1,7 @@
 -- A map that is made of the entries of another has the same rows.
 use Rattle.std.proofs.Common.{◌≡◌, ℕ, Bool, true, false, cond, if◌then◌else◌, List, [], ◌∷◌, ◌++◌, append-nil, Option, Some, None, Ordering, Equal, is_eq, BTreeMap, refl, sym, ap, subst, ◌∙◌}
 use Rattle.std.proofs.lemmas.Bool.{and_parts, false≢true}
+use Rattle.std.proofs.lemmas.Option.{same_Some}
 use Rattle.std.proofs.lemmas.Map.Keys.{IsDistinct-from_sorted}
 use Rattle.std.proofs.lemmas.Map.Lookups.{btree_map_read_from_get, map_keys}
 use Rattle.std.proofs.lemmas.Map.Made.{update_all_none}
@@ -41,9 +42,6 @@ seen_tied a b tied = by (are_keys a.keys) (are_keys b.keys) refl refl
     by false true is is_too = sym (seen_keys b a is_too (tied_back wanted_order_total a b tied))
     by false false is is_too = rw (is, is_too) refl
 
-same_some : {A : Type 0} (a b : A) → Some a ≡ Some b → a ≡ b
-same_some a b is = cc
-
 cons_parts : {A : Type 0} (a b : A) (rest others : List A) → a ∷ rest ≡ b ∷ others → (a ≡ b) × (rest ≡ others)
 cons_parts a b rest others is = (cc, cc)
 
@@ -63,7 +61,7 @@ rows_seen (e ∷ es) (f ∷ fs) base is =
   where
     by : (b : Bool) → are_keys f.0.keys ≡ b → are_keys e.0.keys ≡ true → Some (e.0.fact, e.0.keys) ≡ seen f.0 → e.1 ≡ f.1 → rows_of fs ≡ rows_of es → row_of f ∷ rows_of fs ≡ row_of e ∷ rows_of es
     by true is are key value more =
-        let pair = same_some (e.0.fact, e.0.keys) (f.0.fact, f.0.keys) (rw is at key) in
+        let pair = same_Some (e.0.fact, e.0.keys) (f.0.fact, f.0.keys) (rw is at key) in
         sym (λ i. record { fact = (pair i).0; keys = (pair i).1; values = value i } ∷ sym more i)
     by false is are key value more = some_none _ (rw is at key)
 

@@ -3,6 +3,7 @@ pub mod Bases
 pub mod Copied
 pub mod Lists
 pub mod Places
+pub mod RowLaws
 pub mod Runs
 pub mod Sameness
 pub mod Writing

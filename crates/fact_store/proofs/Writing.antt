@@ -1,5 +1,5 @@
 -- What the map's calls make of its entries is what the writes make of its rows.
-use Rattle.std.proofs.Common.{◌≡◌, ℕ, Bool, true, false, ◌&&◌, ◌||◌, not, cond, List, [], ◌∷◌, ◌++◌, map, filter, Option, Some, None, is_some, Ordering, Less, Equal, Greater, is_eq, refl, sym, ap, ◌∙◌}
+use Rattle.std.proofs.Common.{◌≡◌, ℕ, Bool, true, false, ◌&&◌, ◌||◌, not, cond, List, [], ◌∷◌, ◌++◌, map, filter, Option, Some, None, is_some, Ordering, Less, Equal, Greater, is_eq, is_lt, refl, sym, ap, ◌∙◌}
 use Rattle.std.proofs.lemmas.Bool.{and_from, false≢true, or_parts}
 use Rattle.std.specs.BTreeMap.{insert_entry}
 use Rattle.std.specs.List.{list_all, list_any}
@@ -13,7 +13,7 @@ use Rattle.fact_store.specs.Orders.{wanted_order}
 use Rattle.fact_store.specs.Rows.{are_keys, is_base, is_before}
 use Rattle.fact_store.specs.Stored.{row_of, rows_of}
 use Rattle.fact_store.specs.Writes.{is_other, is_there, revalued, with_row}
-use Rattle.fact_store.proofs.Bases.{base_parts, none_at}
+use Rattle.fact_store.proofs.Bases.{base_parts, none_at, with_row-behind, with_row-front}
 use Rattle.fact_store.proofs.Lists.{all_weaker, filter_all, filter_none}
 use Rattle.fact_store.proofs.Places.{before_from_Greater, before_trans, behind_tied, not_at, not_before, row_order, row_ties}
 
@@ -64,22 +64,13 @@ module _ (key : Wanted) (are : are_keys key.keys ≡ true) where
     insert-stored (e ∷ es) base none =
         let parts = base_parts (row_of e) (rows_of es) base in
         let apart = or_parts (at (row_of e)) (is_there key.fact key.keys (rows_of es)) none in
-        by (wanted_order key e.0) refl parts.first apart.0 (insert-stored es parts.rest apart.1)
+        by (wanted_order key e.0) refl apart.0 (insert-stored es parts.rest apart.1)
       where
-        by : (o : Ordering) → wanted_order key e.0 ≡ o → list_all (is_before (row_of e)) (rows_of es) ≡ true → at (row_of e) ≡ false → rows_of (insert_entry wanted_order es key values) ≡ with_row row (rows_of es)
+        by : (o : Ordering) → wanted_order key e.0 ≡ o → at (row_of e) ≡ false → rows_of (insert_entry wanted_order es key values) ≡ with_row row (rows_of es)
             → rows_of (match_ordering o ((key, values) ∷ e ∷ es) ((e.0, values) ∷ es) (e ∷ insert_entry wanted_order es key values)) ≡ with_row row (row_of e ∷ rows_of es)
-        by Less is first apart more =
-            let here : is_before row (row_of e) ≡ true = rw is refl in
-            let all : list_all (is_before row) (row_of e ∷ rows_of es) ≡ true = and_from _ _ here (all_weaker (is_before (row_of e)) (is_before row) (λ other then. before_trans row (row_of e) other here then) (rows_of es) first) in
-            let none : list_all (λ other. not (is_before other row)) (row_of e ∷ rows_of es) ≡ true = all_weaker (is_before row) (λ other. not (is_before other row)) (λ other then. ap not (not_before row other then)) (row_of e ∷ rows_of es) all in
-            let front : filter (λ other. is_before other row) (row_of e ∷ rows_of es) ≡ [] = filter_none (λ other. is_before other row) (row_of e ∷ rows_of es) none in
-            let back : filter (is_before row) (row_of e ∷ rows_of es) ≡ row_of e ∷ rows_of es = filter_all (is_before row) (row_of e ∷ rows_of es) all in
-            sym (λ i. front i ++ row ∷ back i)
-        by Equal is first apart more = absurd (false≢true (sym apart ∙ sym (ties e) ∙ ap is_eq is))
-        by Greater is first apart more =
-            let here : is_before (row_of e) row ≡ true = before_from_Greater row (row_of e) is in
-            let there : is_before row (row_of e) ≡ false = not_before (row_of e) row here in
-            rw (here, there) (ap (λ rest. row_of e ∷ rest) more)
+        by Less is apart more = sym (with_row-front row (row_of e) (rows_of es) base (ap is_lt is))
+        by Equal is apart more = absurd (false≢true (sym apart ∙ sym (ties e) ∙ ap is_eq is))
+        by Greater is apart more = ap (λ rest. row_of e ∷ rest) more ∙ sym (with_row-behind row (row_of e) (rows_of es) (before_from_Greater row (row_of e) is))
 
   -- ---- new values
 

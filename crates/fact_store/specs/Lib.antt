@@ -1,4 +1,5 @@
 -- The definitions that the contracts of this crate cite.
+pub mod Laws
 pub mod Matching
 pub mod Orders
 pub mod Rows

@@ -55,5 +55,5 @@ pub trait FactBase: Sized + Drop {
         ensures { IfOk result (λ other. rows other ≡ rows self.now) };
 
     /// The rows ascend in fact order, and their keys are key values.
-    ghost ascending: { (facts : Self) → IsTrue (is_base (rows facts)) };
+    ghost base: { (facts : Self) → IsTrue (is_base (rows facts)) };
 }

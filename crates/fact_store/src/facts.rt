@@ -113,7 +113,7 @@ impl FactBase for Facts {
         Ok(Facts { stored })
     }
 
-    ghost ascending = { λ facts. facts.base };
+    ghost base = { λ facts. facts.base };
 }
 
 /// The map of these entries. Entries that ascend already take no more comparisons than they are.
