@@ -6,7 +6,7 @@ use Rattle.base_bytes.specs.declared.value.Value.{Value}
 use Rattle.fact_store.specs.declared.row.Row.{Row}
 use Rattle.fact_store.specs.Matching.{is_at}
 use Rattle.fact_store.specs.Rows.{are_keys, is_ascending, is_base, is_before}
-use Rattle.fact_store.specs.Writes.{is_there, revalued, with_row}
+use Rattle.fact_store.specs.Writes.{revalued, with_row}
 use Rattle.fact_store.proofs.Lists.{all-append, all-filter, all_pass, all_weaker, filter_all, filter_none}
 use Rattle.fact_store.proofs.Places.{before_from_Greater, before_trans, not_at, not_before, row_order, row_ties}
 

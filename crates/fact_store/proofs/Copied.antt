@@ -1,13 +1,12 @@
 -- A map that is made of the entries of another has the same rows.
-use Rattle.std.proofs.Common.{◌≡◌, ℕ, Bool, true, false, cond, if◌then◌else◌, List, [], ◌∷◌, ◌++◌, append-nil, Option, Some, None, Ordering, Equal, is_eq, BTreeMap, refl, sym, ap, subst, ◌∙◌}
-use Rattle.std.proofs.lemmas.Bool.{and_parts, false≢true}
+use Rattle.std.proofs.Common.{◌≡◌, ℕ, Bool, true, false, if◌then◌else◌, List, [], ◌∷◌, ◌++◌, append-nil, Option, Some, None, Equal, is_eq, BTreeMap, refl, sym, ap, subst, ◌∙◌}
+use Rattle.std.proofs.lemmas.Bool.{and_parts}
 use Rattle.std.proofs.lemmas.Option.{same_Some}
 use Rattle.std.proofs.lemmas.Map.Keys.{IsDistinct-from_sorted}
 use Rattle.std.proofs.lemmas.Map.Lookups.{btree_map_read_from_get, map_keys}
 use Rattle.std.proofs.lemmas.Map.Made.{update_all_none}
 use Rattle.std.specs.BTreeMap.{IsFromIterResult, IsOrdered, keys}
 use Rattle.std.specs.Cmp.{eq_by_cmp_equiv, tied_back, unsigned_Decides}
-use Rattle.std.specs.List.{list_all}
 use Rattle.std.specs.Ordering.{eq_by_cmp}
 use Rattle.base_bytes.specs.declared.value.Value.{Value}
 use Rattle.fact_store.specs.declared.wanted.Wanted.{Wanted}

@@ -1,19 +1,11 @@
 -- Lists that a test takes whole, or not at all.
-use Rattle.std.proofs.Common.{◌≡◌, Bool, true, false, ◌&&◌, not, cond, List, [], ◌∷◌, ◌++◌, map, filter, refl, sym, ap, ◌∙◌}
+use Rattle.std.proofs.Common.{◌≡◌, Bool, true, false, not, cond, List, [], ◌∷◌, ◌++◌, filter, refl, sym, ap, ◌∙◌}
 use Rattle.std.proofs.lemmas.Bool.{and_from, and_parts, false≢true, not-true}
 use Rattle.std.specs.List.{list_all}
 
 pub all_weaker : {X : Type 0} (p q : X → Bool) → ((x : X) → p x ≡ true → q x ≡ true) → (xs : List X) → list_all p xs ≡ true → list_all q xs ≡ true
 all_weaker p q weaker [] all = refl
 all_weaker p q weaker (x ∷ xs) all = let parts = and_parts (p x) (list_all p xs) all in and_from _ _ (weaker x parts.0) (all_weaker p q weaker xs parts.1)
-
--- where one test holds of all, and it makes another from a third
-pub all_with : {X : Type 0} (p q r : X → Bool) → ((x : X) → p x ≡ true → q x ≡ true → r x ≡ true) → (xs : List X) → list_all p xs ≡ true → list_all q xs ≡ true → list_all r xs ≡ true
-all_with p q r make [] all are = refl
-all_with p q r make (x ∷ xs) all are =
-    let ps = and_parts (p x) (list_all p xs) all in
-    let qs = and_parts (q x) (list_all q xs) are in
-    and_from _ _ (make x ps.0 qs.0) (all_with p q r make xs ps.1 qs.1)
 
 pub filter_all : {X : Type 0} (p : X → Bool) (xs : List X) → list_all p xs ≡ true → filter p xs ≡ xs
 filter_all p [] all = refl
@@ -42,14 +34,6 @@ all_pass p (x ∷ xs) = by (p x) refl (all_pass p xs)
 pub all-append : {X : Type 0} (p : X → Bool) (xs ys : List X) → list_all p xs ≡ true → list_all p ys ≡ true → list_all p (xs ++ ys) ≡ true
 all-append p [] ys all are = are
 all-append p (x ∷ xs) ys all are = let parts = and_parts (p x) (list_all p xs) all in and_from _ _ parts.0 (all-append p xs ys parts.1 are)
-
-pub filter-append : {X : Type 0} (p : X → Bool) (xs ys : List X) → filter p (xs ++ ys) ≡ filter p xs ++ filter p ys
-filter-append p [] ys = refl
-filter-append p (x ∷ xs) ys = by (p x) (filter-append p xs ys)
-  where
-    by : (b : Bool) → filter p (xs ++ ys) ≡ filter p xs ++ filter p ys → cond b (x ∷ filter p (xs ++ ys)) (filter p (xs ++ ys)) ≡ cond b (x ∷ filter p xs) (filter p xs) ++ filter p ys
-    by true more = ap (λ rest. x ∷ rest) more
-    by false more = more
 
 -- a filter by a stronger test is a part of that by a weaker one
 pub filter-filter : {X : Type 0} (p q : X → Bool) → ((x : X) → p x ≡ true → q x ≡ true) → (xs : List X) → filter p (filter q xs) ≡ filter p xs

@@ -1,8 +1,8 @@
 -- The order of rows by their places, and that it ties the rows of the same fact and keys alone.
-use Rattle.std.proofs.Common.{◌≡◌, ℕ, Bool, true, false, ◌&&◌, ◌==◌, not, List, [], ◌∷◌, Ordering, Less, Equal, Greater, is_eq, is_lt, is_gt, is_le, nat_cmp, refl, sym, ap, subst, ◌∙◌}
-use Rattle.std.proofs.lemmas.Bool.{and_from, and_parts, false≢true}
+use Rattle.std.proofs.Common.{◌≡◌, Bool, true, false, ◌&&◌, ◌==◌, List, [], ◌∷◌, Ordering, Less, Equal, Greater, is_eq, is_lt, nat_cmp, refl, sym, ap, subst, ◌∙◌}
+use Rattle.std.proofs.lemmas.Bool.{and_parts, false≢true}
 use Rattle.std.specs.Bool.{Decides, one_answer}
-use Rattle.std.specs.Cmp.{IsTotalOrder, booleans_Decides, nat_cmp_total, on_total, signed_Decides, then_total, unsigned_Decides, unsigned_ties}
+use Rattle.std.specs.Cmp.{IsTotalOrder, nat_cmp_total, on_total, signed_Decides, then_total, unsigned_Decides, unsigned_ties}
 use Rattle.std.specs.Cmp.Lexicographic.{bytes_decides, texts_ties}
 use Rattle.std.specs.Ordering.{ordering_reverse, ordering_then}
 use Rattle.base_bytes.specs.KeyOrder.{is_key, is_key_layer, key_order, keys_order, layer_order}

@@ -1,6 +1,6 @@
 -- What the map's calls make of its entries is what the writes make of its rows.
-use Rattle.std.proofs.Common.{◌≡◌, ℕ, Bool, true, false, ◌&&◌, ◌||◌, not, cond, List, [], ◌∷◌, ◌++◌, map, filter, Option, Some, None, is_some, Ordering, Less, Equal, Greater, is_eq, is_lt, refl, sym, ap, ◌∙◌}
-use Rattle.std.proofs.lemmas.Bool.{and_from, false≢true, or_parts}
+use Rattle.std.proofs.Common.{◌≡◌, Bool, true, false, ◌&&◌, ◌||◌, not, cond, List, [], ◌∷◌, map, filter, Some, is_some, Ordering, Less, Equal, Greater, is_eq, is_lt, refl, sym, ap, ◌∙◌}
+use Rattle.std.proofs.lemmas.Bool.{false≢true, or_parts}
 use Rattle.std.specs.BTreeMap.{insert_entry}
 use Rattle.std.specs.List.{list_all, list_any}
 use Rattle.std.specs.Map.{lookup, remove_entry, set_value}
@@ -13,9 +13,9 @@ use Rattle.fact_store.specs.Orders.{wanted_order}
 use Rattle.fact_store.specs.Rows.{are_keys, is_base, is_before}
 use Rattle.fact_store.specs.Stored.{row_of, rows_of}
 use Rattle.fact_store.specs.Writes.{is_other, is_there, revalued, with_row}
-use Rattle.fact_store.proofs.Bases.{base_parts, none_at, with_row-behind, with_row-front}
-use Rattle.fact_store.proofs.Lists.{all_weaker, filter_all, filter_none}
-use Rattle.fact_store.proofs.Places.{before_from_Greater, before_trans, behind_tied, not_at, not_before, row_order, row_ties}
+use Rattle.fact_store.proofs.Bases.{base_parts, with_row-behind, with_row-front}
+use Rattle.fact_store.proofs.Lists.{all_weaker, filter_all}
+use Rattle.fact_store.proofs.Places.{before_from_Greater, behind_tied, not_at, row_order, row_ties}
 
 abbrev pub Entry : Type 0
 Entry = Wanted × List Value

@@ -1,8 +1,7 @@
 -- What each write of the map answers, and that its rows stay a base.
-use Rattle.std.proofs.Common.{◌≡◌, ℕ, Bool, true, false, not, cond, List, [], ◌∷◌, map, filter, Option, Some, None, is_some, Result, Ok, Err, OnOk, OnErr, refl, sym, ap, subst, ◌∙◌}
+use Rattle.std.proofs.Common.{◌≡◌, Bool, true, false, not, List, Some, None, is_some, Result, Ok, Err, OnOk, OnErr, refl, sym, ap, ◌∙◌}
 use Rattle.std.proofs.lemmas.Map.Steps.{set_value_same}
 use Rattle.std.specs.BTreeMap.{insert_entry}
-use Rattle.std.specs.List.{list_any}
 use Rattle.std.specs.Map.{lookup, remove_entry, set_value}
 use Rattle.base_bytes.specs.declared.value.Value.{Value}
 use Rattle.fact_store.specs.declared.wanted.Wanted.{Wanted}
@@ -11,7 +10,7 @@ use Rattle.fact_store.specs.Matching.{has_named, is_at}
 use Rattle.fact_store.specs.Orders.{wanted_order}
 use Rattle.fact_store.specs.Rows.{are_keys, is_base}
 use Rattle.fact_store.specs.Stored.{row_of, rows_of}
-use Rattle.fact_store.specs.Writes.{created, deleted, is_other, is_there, revalued, updated, with_row}
+use Rattle.fact_store.specs.Writes.{created, deleted, is_there, updated}
 use Rattle.fact_store.proofs.Bases.{base-filter, base-revalued, base-with_row}
 use Rattle.fact_store.proofs.Writing.{Entry, at_key, insert-stored, other-stored, remove-stored, set-stored, there-stored}
 

@@ -1,6 +1,6 @@
 -- Fact order is an order: the laws that a map of std asks of its keys.
 use Rattle.std.specs.Prelude.{◌≡◌, ℕ, ℤ, pos, Bool, true, false, List, [], ◌∷◌, refl}
-use Rattle.std.proofs.Common.{sym, ap, subst, ◌∙◌}
+use Rattle.std.proofs.Common.{ap, subst}
 use Rattle.std.specs.declared.cmp.Ordering.{Ordering}
 use Rattle.std.specs.declared.cmp.Ordering.TheVariants.{Less, Equal, Greater}
 use Rattle.std.specs.Ordering.{nat_cmp, int_cmp, on, then_cmp, ordering_then}
@@ -8,7 +8,7 @@ use Rattle.std.specs.Cmp.{IsTotalOrder, on_total, then_total, nat_cmp_total, int
 use Rattle.std.specs.Cmp.Lexicographic.{slice_cmp, lists_total, nat_list_cmp_total}
 use Rattle.base_bytes.specs.declared.value.Value.{Value, out-Value}
 use Rattle.base_bytes.specs.declared.value.Value.TheOpen.{Value-F}
-use Rattle.base_bytes.specs.KeyOrder.{variant_place, layer_order, key_order, keys_order}
+use Rattle.base_bytes.specs.KeyOrder.{layer_order, key_order, keys_order}
 use Rattle.fact_store.specs.declared.wanted.Wanted.{Wanted}
 use Rattle.fact_store.specs.Rows.{place_order}
 

@@ -5,6 +5,7 @@ mod fact_base;
 mod facts;
 mod laws;
 mod matching;
+mod order;
 mod row;
 mod wanted;
 mod write_fault;

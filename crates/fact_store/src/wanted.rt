@@ -1,10 +1,9 @@
 ghost use Rattle.std.specs.Prelude.{◌≡◌, IfOk, refl};
 ghost use Rattle.std.specs.Ordering.{as_partial_cmp, eq_by_cmp};
 ghost use Rattle.std.specs.Cmp.{eq_by_cmp_equiv, partial_equiv_from_equiv, partial_order_from_total};
-ghost use Rattle.base_bytes.specs.KeyOrder.{key_order, keys_order, variant_place as place_of};
-ghost use Rattle.base_bytes.specs.declared.value.Value.{out-Value};
 
-use base_bytes::{NoMemory, Value, Values, compare, copy_values};
+use crate::order::compare_lists;
+use base_bytes::{NoMemory, Value, Values, copy_values};
 use sqlite_items::Items;
 use std::alloc::Global;
 use std::cmp::Ordering;
@@ -80,57 +79,9 @@ impl Ord for Wanted {
     ghost matches_eq = { λ x y. refl };
 
     fn cmp(&self, other: &Wanted) -> Ordering {
-        self.fact
-            .cmp(&other.fact)
-            .then(compare_lists(self.keys.as_slice(), other.keys.as_slice()))
-    }
-}
-
-/// The order of two lists of values: from left to right, a prefix first.
-fn compare_lists(values: &[Value], others: &[Value]) -> Ordering
-    ensures { result ≡ keys_order values.now others.now }
-{
-    match values {
-        [] => match others {
-            [] => Ordering::Equal,
-            [_, ..] => Ordering::Less,
-        },
-        [value, values @ ..] => match others {
-            [] => Ordering::Greater,
-            [other, others @ ..] => {
-                compare_values(value, other).then(compare_lists(values, others))
-            }
-        },
-    }
-}
-
-/// `compare`, of values that need be no keys: those go by the order of the variants alone.
-fn compare_values(value: &Value, other: &Value) -> Ordering
-    ensures { result ≡ key_order value.now other.now }
-{
-    match (value, other) {
-        (Value::Struct(_, _) | Value::Nothing | Value::Some(_), _) => {
-            variant_place(value).cmp(&variant_place(other))
+        match self.fact.cmp(&other.fact) {
+            Ordering::Equal => compare_lists(self.keys.as_slice(), other.keys.as_slice()),
+            unequal => unequal,
         }
-        (_, Value::Struct(_, _) | Value::Nothing | Value::Some(_)) => {
-            variant_place(value).cmp(&variant_place(other))
-        }
-        _ => compare(value, other),
-    }
-}
-
-fn variant_place(value: &Value) -> u8
-    ensures { result ≡ place_of (out-Value value.now) }
-{
-    match value {
-        Value::Int(_) => 0,
-        Value::Bool(_) => 1,
-        Value::Str(_) => 2,
-        Value::Raw(_) => 3,
-        Value::Ident(_) => 4,
-        Value::Enum(_, _) => 5,
-        Value::Struct(_, _) => 6,
-        Value::Nothing => 7,
-        Value::Some(_) => 8,
     }
 }

@@ -96,7 +96,7 @@ fn assert_finds<F: FactBase>(
     query: Query,
 ) -> Result<(), NoMemory> {
     let (fact, keys, values, numbers) = query;
-    let wanted = wanted(alloc, fact, keys, values)?;
+    let wanted = wanted(alloc, fact, keys, values)?.copy(alloc)?;
     let rows = facts.select(alloc, &wanted)?;
     assert!(rt; numbers_of(alloc, rows.as_slice())?.as_slice() == numbers);
     assert!(rt; first_number(alloc, facts, query)? == numbers.first().copied().unwrap_or(0));

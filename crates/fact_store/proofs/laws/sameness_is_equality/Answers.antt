@@ -1,5 +1,5 @@
-use Rattle.std.proofs.Common.{Equal, ap, is_eq, refl, subst, sym, ◌∙◌, ◌≡◌, Ordering}
-use Rattle.std.specs.Cmp.{tied_itself, Equal-is}
+use Rattle.std.proofs.Common.{ap, is_eq, sym, ◌∙◌}
+use Rattle.std.specs.Cmp.{tied_itself}
 use Rattle.base_bytes.specs.KeyOrder.{key_order}
 use Rattle.fact_store.specs.Orders.{key_order_total}
 use Rattle.fact_store.proofs.Places.{key_ties}

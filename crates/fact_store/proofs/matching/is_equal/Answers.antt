@@ -1,8 +1,5 @@
 use Rattle.std.specs.Bool.{one_answer}
 use Rattle.fact_store.proofs.Sameness.{same_value_decides}
-use Rattle.fact_store.proofs.Writing.{other-stored}
-use Rattle.fact_store.proofs.Runs.{from_within}
-use Rattle.fact_store.proofs.Bases.{base-with_row}
 use Rattle.fact_store.proofs.matching.is_equal.Goals as goal
 
 pub returns : goal.returns

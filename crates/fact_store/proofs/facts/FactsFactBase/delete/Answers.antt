@@ -1,7 +1,5 @@
-use Rattle.std.proofs.Common.{◌≡◌, List, true, Ok, Err, inr, sym, ap, subst, ◌∙◌}
-use Rattle.base_bytes.specs.declared.value.Value.{Value}
+use Rattle.std.proofs.Common.{inr, sym, ap, ◌∙◌}
 use Rattle.fact_store.specs.declared.wanted.Wanted.{Wanted}
-use Rattle.fact_store.specs.declared.write_fault.WriteFault.TheVariants as fault
 use Rattle.fact_store.specs.Rows.{are_keys}
 use Rattle.fact_store.specs.Stored.{rows_of}
 use Rattle.fact_store.specs.Writes.{deleted}
