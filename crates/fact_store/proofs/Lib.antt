@@ -6,5 +6,6 @@ pub mod Places
 pub mod RowLaws
 pub mod Runs
 pub mod Sameness
+pub mod Telling
 pub mod Writing
 pub mod Written

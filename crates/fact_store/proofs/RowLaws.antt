@@ -69,16 +69,21 @@ none_taken : (test : Row → Bool) (rows : List Row) → list_any test rows ≡ 
 none_taken test [] none = refl
 none_taken test (row ∷ rows) none = let parts = or_parts (test row) (list_any test rows) none in rw parts.0 (none_taken test rows parts.1)
 
+-- a row at a place names it
+pub is_one_place : (fact : ℕ) (keys : List Value) (row : Row) → is_at fact keys row ≡ true → is_at fact keys ≡ is_at row.fact row.keys
+is_one_place fact keys row is =
+    let at = and_parts (fact == row.fact) (same_values keys row.keys) is in
+    let one : fact ≡ row.fact = (unsigned_Decides fact row.fact).0 at.0 in
+    let same : keys ≡ row.keys = (same_values_decide keys row.keys).0 at.1 in
+    λ i. is_at (one i) (same i)
+
 pub one_row : (fact : ℕ) (keys : List Value) (rows : List Row) → is_base rows ≡ true → length (filter (is_at fact keys) rows) ≤ 1
 one_row fact keys [] base = omega arith
 one_row fact keys (row ∷ rows) base = let parts = base_parts row rows base in by (is_at fact keys row) refl parts.keys parts.first (one_row fact keys rows parts.rest)
   where
     by : (b : Bool) → is_at fact keys row ≡ b → are_keys row.keys ≡ true → list_all (is_before row) rows ≡ true → length (filter (is_at fact keys) rows) ≤ 1 → length (cond b (row ∷ filter (is_at fact keys) rows) (filter (is_at fact keys) rows)) ≤ 1
     by true is are first more =
-        let at = and_parts (fact == row.fact) (same_values keys row.keys) is in
-        let one : fact ≡ row.fact = (unsigned_Decides fact row.fact).0 at.0 in
-        let same : keys ≡ row.keys = (same_values_decide keys row.keys).0 at.1 in
-        let none : filter (is_at fact keys) rows ≡ [] = ap (λ (test : Row → Bool). filter test rows) (λ i. is_at (one i) (same i)) ∙ filter_none (is_at row.fact row.keys) rows (none_at row rows are first) in
+        let none : filter (is_at fact keys) rows ≡ [] = ap (λ (test : Row → Bool). filter test rows) (is_one_place fact keys row is) ∙ filter_none (is_at row.fact row.keys) rows (none_at row rows are first) in
         rw none (omega arith)
     by false is are first more = more
 

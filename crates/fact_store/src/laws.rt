@@ -5,7 +5,7 @@ ghost use Rattle.base_bytes.specs.KeyOrder.{is_key, key_order};
 ghost use Rattle.base_bytes.specs.declared.value.Value.{Value};
 ghost use Rattle.fact_store.specs.declared.row.Row.{Row};
 ghost use Rattle.fact_store.specs.declared.wanted.Wanted.{Wanted};
-ghost use Rattle.fact_store.specs.Laws.{IsElsewhere, LeavesAt, LeavesBase, LeavesTaken};
+ghost use Rattle.fact_store.specs.Laws.{HoldsSame, IsElsewhere, LeavesAt, LeavesBase, LeavesTaken};
 ghost use Rattle.fact_store.specs.Matching.{begins_with, has_named, is_at, selected};
 ghost use Rattle.fact_store.specs.Rows.{are_keys, is_base};
 ghost use Rattle.fact_store.specs.Sameness.{same_value};
@@ -20,6 +20,11 @@ pub fn sameness_is_equality()
 /// A base has at most one row of a fact and just these keys.
 pub fn places_have_one_row()
     ensures { (fact : ℕ) (keys : List Value) (rows : List Row) → IsTrue (is_base rows) → length (filter (is_at fact keys) rows) ≤ 1 }
+{}
+
+/// A base is told by what stands at each place: two bases that hold the same there are one list.
+pub fn bases_are_told_by_places()
+    ensures { (rows others : List Row) → IsTrue (is_base rows) → IsTrue (is_base others) → HoldsSame rows others → rows ≡ others }
 {}
 
 /// Each write leaves a base.

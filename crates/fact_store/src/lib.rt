@@ -13,8 +13,8 @@ mod write_fault;
 pub use fact_base::FactBase;
 pub use facts::Facts;
 pub use laws::{
-    longer_prefixes_find_less, places_have_one_row, sameness_is_equality, writes_leave_bases,
-    writes_leave_other_rows, writes_stand_at_their_keys,
+    bases_are_told_by_places, longer_prefixes_find_less, places_have_one_row, sameness_is_equality,
+    writes_leave_bases, writes_leave_other_rows, writes_stand_at_their_keys,
 };
 pub use row::Row;
 pub use wanted::Wanted;
