@@ -1,0 +1,93 @@
+//! Calls of the flat fact base, made often, and the same on a plain ordered map: `bench/facts` takes the time.
+//! `fact_benches facts|map query|copy ROWS ROUNDS`; without words each call is made a few times.
+#![tactic(auto)]
+
+mod facts;
+mod map;
+mod sample;
+
+use base_bytes::NoMemory;
+use std::alloc::Global;
+use std::{env, io};
+
+#[derive(Clone, Copy, Debug)]
+enum Base {
+    Facts,
+    Map,
+}
+
+#[derive(Clone, Copy, Debug)]
+enum Call {
+    Query,
+    Copy,
+}
+
+fn base_of(word: &str) -> Option<Base> {
+    match word {
+        "facts" => Some(Base::Facts),
+        "map" => Some(Base::Map),
+        _ => None,
+    }
+}
+
+fn call_of(word: &str) -> Option<Call> {
+    match word {
+        "query" => Some(Call::Query),
+        "copy" => Some(Call::Copy),
+        _ => None,
+    }
+}
+
+/// Fills a base with so many rows and makes the call so many times; a sum of what it answered.
+fn run(alloc: Global, base: Base, call: Call, rows: u32, rounds: u32) -> Result<u64, NoMemory> {
+    match (base, call) {
+        (Base::Facts, Call::Query) => facts::query(alloc, rows, rounds),
+        (Base::Facts, Call::Copy) => facts::copy(alloc, rows, rounds),
+        (Base::Map, Call::Query) => map::query(alloc, rows, rounds),
+        (Base::Map, Call::Copy) => map::copy(alloc, rows, rounds),
+    }
+}
+
+fn out_of_memory(_error: NoMemory) -> io::Error {
+    io::Error::from(io::ErrorKind::OutOfMemory)
+}
+
+fn report(rt: &HostRuntime, base: Base, call: Call, rows: u32, rounds: u32) -> io::Result<()> {
+    let sum = run(rt.alloc(), base, call, rows, rounds).map_err(out_of_memory)?;
+    println!(rt; "{base:?} {call:?}: {rows} rows, {rounds} rounds, sum {sum}")
+}
+
+fn report_words(
+    rt: &HostRuntime,
+    base: &str,
+    call: &str,
+    rows: &str,
+    rounds: &str,
+) -> io::Result<()> {
+    let base = base_of(base);
+    let call = call_of(call);
+    let rows = rows.parse::<u32>().ok();
+    let rounds = rounds.parse::<u32>().ok();
+    match (base, call, rows, rounds) {
+        (Some(base), Some(call), Some(rows), Some(rounds)) => report(rt, base, call, rows, rounds),
+        _ => println!(rt; "usage: fact_benches facts|map query|copy ROWS ROUNDS"),
+    }
+}
+
+fn main(rt: HostRuntime) -> io::Result<()> {
+    let mut words = env::args(&rt)?;
+    let _program = words.next();
+    match (words.next(), words.next(), words.next(), words.next()) {
+        (Some(base), Some(call), Some(rows), Some(rounds)) => {
+            report_words(&rt, &base, &call, &rows, &rounds)
+        }
+        _ => {
+            for base in [Base::Facts, Base::Map] {
+                for call in [Call::Query, Call::Copy] {
+                    report(&rt, base, call, 300, 20)?;
+                }
+            }
+            Ok(())
+        }
+    }
+}

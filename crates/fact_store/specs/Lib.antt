@@ -1,0 +1,8 @@
+-- The definitions that the contracts of this crate cite.
+pub mod Laws
+pub mod Matching
+pub mod Orders
+pub mod Rows
+pub mod Sameness
+pub mod Stored
+pub mod Writes

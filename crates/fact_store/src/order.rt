@@ -1,0 +1,56 @@
+ghost use Rattle.std.specs.Prelude.{◌≡◌};
+ghost use Rattle.base_bytes.specs.KeyOrder.{key_order, keys_order, variant_place as place_of};
+ghost use Rattle.base_bytes.specs.declared.value.Value.{out-Value};
+
+use base_bytes::{Value, compare};
+use std::cmp::Ordering;
+
+/// The order of two lists of values: from left to right, a prefix first.
+pub(crate) fn compare_lists(values: &[Value], others: &[Value]) -> Ordering
+    ensures { result ≡ keys_order values.now others.now }
+{
+    match values {
+        [] => match others {
+            [] => Ordering::Equal,
+            [_, ..] => Ordering::Less,
+        },
+        [value, values @ ..] => match others {
+            [] => Ordering::Greater,
+            [other, others @ ..] => match compare_values(value, other) {
+                Ordering::Equal => compare_lists(values, others),
+                unequal => unequal,
+            },
+        },
+    }
+}
+
+/// `compare`, of values that need be no keys: those go by the order of the variants alone.
+fn compare_values(value: &Value, other: &Value) -> Ordering
+    ensures { result ≡ key_order value.now other.now }
+{
+    match (value, other) {
+        (Value::Struct(_, _) | Value::Nothing | Value::Some(_), _) => {
+            variant_place(value).cmp(&variant_place(other))
+        }
+        (_, Value::Struct(_, _) | Value::Nothing | Value::Some(_)) => {
+            variant_place(value).cmp(&variant_place(other))
+        }
+        _ => compare(value, other),
+    }
+}
+
+fn variant_place(value: &Value) -> u8
+    ensures { result ≡ place_of (out-Value value.now) }
+{
+    match value {
+        Value::Int(_) => 0,
+        Value::Bool(_) => 1,
+        Value::Str(_) => 2,
+        Value::Raw(_) => 3,
+        Value::Ident(_) => 4,
+        Value::Enum(_, _) => 5,
+        Value::Struct(_, _) => 6,
+        Value::Nothing => 7,
+        Value::Some(_) => 8,
+    }
+}
