@@ -4,6 +4,28 @@
 #[cfg(test)]
 mod documents;
 #[cfg(test)]
+mod examples;
+#[cfg(test)]
+mod heights;
+#[cfg(test)]
+mod page;
+#[cfg(test)]
+mod read;
+#[cfg(test)]
+mod refused_forms;
+#[cfg(test)]
 mod shown;
 #[cfg(test)]
+mod shown_expr;
+#[cfg(test)]
+mod shown_item;
+#[cfg(test)]
+mod shown_leaves;
+#[cfg(test)]
+mod shown_stmt;
+#[cfg(test)]
+mod syntax_faults;
+#[cfg(test)]
 mod token_forms;
+#[cfg(test)]
+mod trees;

@@ -7,8 +7,9 @@ ghost use Rattle.policy_ast.proofs.grammar.Reading.{many};
 ghost use Rattle.policy_ast.proofs.grammar.ReadingStatements.{read_create, read_delete, read_finish_block, read_finish_call, read_finish_stmt, read_update};
 ghost use Rattle.policy_parse.specs.Seen.{seen};
 
-use crate::expressions::{arguments, binds, expression, pattern};
+use crate::expressions::expression;
 use crate::parts::{Found, built, higher};
+use crate::patterns::{arguments, binds, pattern};
 use crate::tokens::{after, after_word, name};
 use base_bytes::NoMemory;
 use policy_ast::{FinishStmt, Part, Token, symbols};

@@ -4,11 +4,14 @@
 mod arms;
 mod expressions;
 mod finish;
+mod if_expressions;
 mod items;
 mod literals;
 mod operators;
 mod parts;
+mod patterns;
 mod policy;
+mod primaries;
 mod sections;
 mod statements;
 mod tokens;

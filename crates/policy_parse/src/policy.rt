@@ -12,6 +12,7 @@ use sqlite_items::{Items, at};
 use std::alloc::Global;
 
 /// Why no policy was read.
+#[derive(Clone, Copy, Debug, PartialEq, Eq)]
 pub enum SyntaxFault {
     /// The tokens spell none. The line is that of the first token behind the longest run of whole items.
     Syntax { item_line: u32 },

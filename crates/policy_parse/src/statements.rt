@@ -12,9 +12,11 @@ ghost use Rattle.policy_ast.proofs.grammar.ReadingStatements.{arm_over, block_ov
 ghost use Rattle.policy_parse.specs.Seen.{seen};
 
 use crate::arms::arm_pattern;
-use crate::expressions::{binding, expression, pattern};
+use crate::expressions::expression;
 use crate::finish::finish_block;
+use crate::if_expressions::binding;
 use crate::parts::{Found, built_within, higher};
+use crate::patterns::pattern;
 use crate::tokens::{after, after_word, name};
 use base_bytes::NoMemory;
 use policy_ast::{Arm, Else, IfStmt, Part, Stmt, Token, symbols};
