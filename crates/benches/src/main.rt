@@ -1,9 +1,11 @@
-//! Calls that no command of the program reaches, made often: the scripts in `bench/` take the time. `benches CALL SIZE ROUNDS`
-//! makes one call so many times; without words each call is made a few times.
+//! Calls that no command of the program reaches, made often: the scripts in `bench/` take the time. `benches read SIZE ROUNDS` and
+//! `benches braid SHAPE SIZE ROUNDS` make one call so many times; without words each call is made a few times.
 #![tactic(auto)]
 
+mod graphs;
 mod responses;
 
+use crate::graphs::{Ask, Shape, run as run_graph};
 use crate::responses::{Call, Size, run};
 use base_bytes::NoMemory;
 use std::{env, io};
@@ -42,6 +44,38 @@ fn size_word(size: Size) -> &'static str {
     }
 }
 
+fn ask_of(word: &str) -> Option<Ask> {
+    match word {
+        "braid" => Some(Ask::Braid),
+        "ancestor" => Some(Ask::Ancestor),
+        _ => None,
+    }
+}
+
+fn shape_of(word: &str) -> Option<Shape> {
+    match word {
+        "strands" => Some(Shape::Strands),
+        "chain" => Some(Shape::Chain),
+        "diamonds" => Some(Shape::Diamonds),
+        _ => None,
+    }
+}
+
+fn ask_word(ask: Ask) -> &'static str {
+    match ask {
+        Ask::Braid => "braid",
+        Ask::Ancestor => "ancestor",
+    }
+}
+
+fn shape_word(shape: Shape) -> &'static str {
+    match shape {
+        Shape::Strands => "strands",
+        Shape::Chain => "chain",
+        Shape::Diamonds => "diamonds",
+    }
+}
+
 fn out_of_memory(_error: NoMemory) -> io::Error {
     io::Error::from(io::ErrorKind::OutOfMemory)
 }
@@ -56,22 +90,73 @@ fn report(rt: &HostRuntime, call: Call, size: Size, rounds: u32) -> io::Result<(
     )
 }
 
+fn report_graph(
+    rt: &HostRuntime,
+    ask: Ask,
+    shape: Shape,
+    size: usize,
+    rounds: u32,
+) -> io::Result<()> {
+    let found = run_graph(rt.alloc(), ask, shape, size, rounds).map_err(out_of_memory)?;
+    let ask = ask_word(ask);
+    let shape = shape_word(shape);
+    println!(rt; "{ask} {shape} {size}: {rounds} rounds, {found} found")
+}
+
+fn usage(rt: &HostRuntime) -> io::Result<()> {
+    println!(rt;
+        "usage: benches read|copy 4096|100 ROUNDS, or benches braid|ancestor strands|chain|diamonds SIZE ROUNDS"
+    )
+}
+
+fn report_words(rt: &HostRuntime, call: &str, size: &str, rounds: &str) -> io::Result<()> {
+    match (call_of(call), size_of(size), rounds_of(rounds)) {
+        (Some(call), Some(size), Some(rounds)) => report(rt, call, size, rounds),
+        _ => usage(rt),
+    }
+}
+
+fn report_graph_words(
+    rt: &HostRuntime,
+    ask: &str,
+    shape: &str,
+    size: &str,
+    rounds: &str,
+) -> io::Result<()> {
+    match (
+        ask_of(ask),
+        shape_of(shape),
+        size.parse::<usize>().ok(),
+        rounds_of(rounds),
+    ) {
+        (Some(ask), Some(shape), Some(size), Some(rounds)) => {
+            report_graph(rt, ask, shape, size, rounds)
+        }
+        _ => usage(rt),
+    }
+}
+
+fn report_all(rt: &HostRuntime) -> io::Result<()> {
+    for call in [Call::Read, Call::Copy] {
+        report(rt, call, Size::Large, 3)?;
+        report(rt, call, Size::Small, 3)?;
+    }
+    for shape in [Shape::Strands, Shape::Chain, Shape::Diamonds] {
+        report_graph(rt, Ask::Braid, shape, 20, 3)?;
+        report_graph(rt, Ask::Ancestor, shape, 20, 3)?;
+    }
+    Ok(())
+}
+
 fn main(rt: HostRuntime) -> io::Result<()> {
     let mut words = env::args(&rt)?;
     let _program = words.next();
-    match (words.next(), words.next(), words.next()) {
-        (Some(call), Some(size), Some(rounds)) => {
-            match (call_of(&call), size_of(&size), rounds_of(&rounds)) {
-                (Some(call), Some(size), Some(rounds)) => report(&rt, call, size, rounds),
-                _ => println!(rt; "usage: benches read|copy 4096|100 ROUNDS"),
-            }
+    match (words.next(), words.next(), words.next(), words.next()) {
+        (Some(ask), Some(shape), Some(size), Some(rounds)) => {
+            report_graph_words(&rt, &ask, &shape, &size, &rounds)
         }
-        _ => {
-            for call in [Call::Read, Call::Copy] {
-                report(&rt, call, Size::Large, 3)?;
-                report(&rt, call, Size::Small, 3)?;
-            }
-            Ok(())
-        }
+        (Some(call), Some(size), Some(rounds), None) => report_words(&rt, &call, &size, &rounds),
+        (Some(_), _, _, _) => usage(&rt),
+        _ => report_all(&rt),
     }
 }

@@ -9,10 +9,10 @@ use Rattle.std.proofs.lemmas.List.Quantifiers.{position-Some}
 use Rattle.std.proofs.lemmas.Option.{get_or_from_slice_get, slice_get_within, slice_get-get_or}
 use Rattle.command.specs.declared.command.Command.{Command}
 use Rattle.command.specs.Ancestors.{Ancestor, IsAt}
-use Rattle.command.specs.Closed.{IsClosed, IsNext, place_of}
+use Rattle.command.specs.Closed.{IsClosed, IsHeld, IsNext, place_of}
 use Rattle.command.specs.Wire.{command_id}
 use Rattle.command.proofs.AncestorFacts.{not_itself, older_inside, was}
-use Rattle.command.proofs.ClosedFacts.{bytes_of_same, held_by, same_by_id, same_bytes}
+use Rattle.command.proofs.ClosedFacts.{bytes_of_same, held_by, held_command, same_by_id, same_bytes}
 use Rattle.command.proofs.ListFacts.{each_cut, head_cases, in_middle, none_element}
 
 -- the list cut at a place
@@ -102,3 +102,12 @@ place_is cs closed place x at =
     let there = place_at cs (command_id x) found.0 found.1 in
     let same = same_by_id cs closed there.0 x (inside_at cs found.0 there.0 there.1) (inside_at cs place x at) there.2 in
     found.1 ∙ ap Some (one_place cs closed found.0 place x (subst (λ z. IsAt cs found.0 z) same there.1) at)
+
+-- an id has a place exactly where it is held
+pub place_held : (cs : List Command) (id : List ℕ) (place : ℕ) → place_of cs id ≡ Some place → IsHeld cs id
+place_held cs id place is = let found = place_at cs id place is in subst (λ i. IsHeld cs i) found.2 (held_by cs found.0 (inside_at cs place found.0 found.1))
+
+pub held_place : (cs : List Command) (id : List ℕ) → IsHeld cs id → (place : ℕ) × (place_of cs id ≡ Some place)
+held_place cs id held =
+    let found = held_command cs id held in
+    position_of (λ c. bytes_eq id (command_id c)) cs found.0 found.1 (bytes_of_same id (command_id found.0) (sym found.2))

@@ -1,0 +1,10 @@
+//! Tests of graphs and braids: what no contract says, against orders worked out by hand.
+#![tactic(auto)]
+
+#[cfg(test)]
+mod calls;
+pub mod made;
+#[cfg(test)]
+mod rows;
+#[cfg(test)]
+mod tables;
