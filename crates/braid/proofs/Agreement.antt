@@ -1,8 +1,7 @@
 -- Lists that agree have one braid.
-use Rattle.std.proofs.Common.{◌≡◌, ◌⊎◌, ◌↔◌, inl, inr, Bool, true, false, List, refl, sym, ap, subst, ◌∙◌}
+use Rattle.std.proofs.Common.{◌≡◌, ◌⊎◌, inl, inr, Bool, true, false, List, refl, sym, subst}
 use Rattle.std.specs.List.{Contains}
 use Rattle.command.specs.declared.command.Command.{Command}
-use Rattle.command.specs.Ancestors.{Ancestor, IsParent}
 use Rattle.command.specs.Closed.{IsClosed}
 use Rattle.command.specs.Kinds.{is_merge}
 use Rattle.command.specs.Wire.{command_id}

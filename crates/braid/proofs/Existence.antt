@@ -1,8 +1,8 @@
 -- There is a braid: where some commands are left, one of them is the lowest top.
-use Rattle.std.proofs.Common.{◌≡◌, ℕ, zero, suc, ◌+◌, ◌<◌, ◌≤◌, ◌⊎◌, ◌↔◌, inl, inr, Bool, true, false, if◌then◌else◌, List, [], ◌∷◌, ◌++◌, length, refl, sym, ap, subst, ◌∙◌, arith, append_assoc, append-nil, length-append}
+use Rattle.std.proofs.Common.{◌≡◌, ℕ, zero, suc, ◌+◌, ◌<◌, ◌≤◌, ◌⊎◌, ◌↔◌, inl, inr, Bool, true, false, if◌then◌else◌, List, [], ◌∷◌, ◌++◌, length, sym, ap, subst, arith, append_assoc, append-nil, length-append}
 use Rattle.std.specs.List.{Contains}
 use Rattle.std.specs.Str.{bytes_eq}
-use Rattle.std.proofs.lemmas.List.Elements.{Contains-append_left, Contains-append_right, Contains-append_cases, Contains-push, Contains-push_cases}
+use Rattle.std.proofs.lemmas.List.Elements.{Contains-append_left, Contains-append_right, Contains-append_cases}
 use Rattle.command.specs.declared.command.Command.{Command}
 use Rattle.command.specs.Ancestors.{Ancestor}
 use Rattle.command.specs.Closed.{IsClosed}
@@ -11,7 +11,7 @@ use Rattle.command.specs.Kinds.{is_merge}
 use Rattle.command.specs.Wire.{command_id}
 use Rattle.command.proofs.AncestorFacts.{from_newest}
 use Rattle.command.proofs.ClosedFacts.{bytes_of_same, same_by_id}
-use Rattle.command.proofs.KnownAncestors.{Known, ancestor_known}
+use Rattle.command.proofs.KnownAncestors.{ancestor_known}
 use Rattle.command.proofs.ListFacts.{at_head, behind_head, head_cases, none_element}
 use Rattle.braid.specs.Braids.{IsBraid, IsPlaced, IsTop}
 use Rattle.braid.specs.Lower.{IsLower}

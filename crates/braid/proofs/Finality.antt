@@ -1,7 +1,7 @@
 -- The braid of a finalize's closure begins the whole braid.
-use Rattle.std.proofs.Common.{◌≡◌, ◌⊎◌, ◌↔◌, inl, inr, Bool, true, false, List, [], ◌∷◌, ◌++◌, refl, sym, ap, subst, ◌∙◌, append_assoc}
+use Rattle.std.proofs.Common.{◌≡◌, ◌⊎◌, inl, inr, Bool, true, false, List, [], ◌∷◌, ◌++◌, refl, sym, ap, subst, ◌∙◌, append_assoc}
 use Rattle.std.specs.List.{Contains}
-use Rattle.std.proofs.lemmas.List.Elements.{Contains-append_left, Contains-append_right, Contains-append_cases, Contains-push, Contains-push_cases}
+use Rattle.std.proofs.lemmas.List.Elements.{Contains-append_left, Contains-append_cases, Contains-push, Contains-push_cases}
 use Rattle.command.specs.declared.command.Command.{Command}
 use Rattle.command.specs.declared.command.Command.TheVariants.{Init, Basic, Finalize, Merge}
 use Rattle.command.specs.Ancestors.{Ancestor, AreInLine, IsUpTo}
@@ -10,8 +10,8 @@ use Rattle.command.specs.Each.{Each}
 use Rattle.command.specs.Kinds.{is_finalize, is_merge}
 use Rattle.command.proofs.AncestorFacts.{from_newest, trans}
 use Rattle.command.proofs.KnownAncestors.{ancestor_known}
-use Rattle.command.proofs.ListFacts.{at_head, each_cut, each_left, head_cases, in_middle, split_at}
-use Rattle.braid.specs.Braids.{IsBraid, IsBraidOf, IsBraidTo, IsPlaced, IsTop}
+use Rattle.command.proofs.ListFacts.{each_cut, each_left, head_cases, in_middle, split_at}
+use Rattle.braid.specs.Braids.{IsBraid, IsBraidTo, IsPlaced, IsTop}
 use Rattle.braid.specs.Lower.{IsLower}
 use Rattle.braid.proofs.Agreement.{one_braid}
 

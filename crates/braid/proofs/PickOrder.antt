@@ -1,5 +1,5 @@
 -- What is taken first.
-use Rattle.std.proofs.Common.{◌≡◌, ℕ, ◌<◌, ◌⊎◌, inl, inr, Bool, true, false, List, [], ◌∷◌, ◌++◌, length, take, slice_get, Option, None, Some, refl, sym, ap, subst, ◌∙◌, arith, get_or}
+use Rattle.std.proofs.Common.{◌≡◌, ℕ, ◌<◌, ◌⊎◌, inl, inr, true, false, List, [], ◌∷◌, ◌++◌, length, Some, refl, sym, subst, ◌∙◌, arith, get_or}
 use Rattle.std.specs.List.{Contains}
 use Rattle.std.specs.Cmp.{IsTotalOrder, bool_cmp_total}
 use Rattle.std.proofs.lemmas.Cmp.{back_total, on_total, then_total, tied_itself}
@@ -10,7 +10,7 @@ use Rattle.command.specs.Ancestors.{IsAt}
 use Rattle.command.specs.Kinds.{is_merge}
 use Rattle.command.proofs.ListFacts.{none_element}
 use Rattle.braid.specs.Lower.{IsLower}
-use Rattle.braid.specs.Working.{IsAmong, IsBefore, IsBest, IsFirst, pick_order}
+use Rattle.braid.specs.Working.{IsAmong, IsBefore, IsFirst, pick_order}
 use Rattle.braid.proofs.Order.{rank_total}
 
 pick_total : IsTotalOrder pick_order

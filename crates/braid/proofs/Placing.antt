@@ -1,12 +1,11 @@
 -- Taking the lowest command off the rest, and putting it in front of those that are placed.
-use Rattle.std.proofs.Common.{◌≡◌, ℕ, ◌<◌, ◌⊎◌, ◌↔◌, inl, inr, Bool, true, false, if◌then◌else◌, List, [], ◌∷◌, ◌++◌, length, refl, sym, ap, subst, ◌∙◌, arith}
+use Rattle.std.proofs.Common.{◌≡◌, ℕ, ◌⊎◌, ◌↔◌, inl, inr, Bool, true, false, if◌then◌else◌, List, [], ◌∷◌, ◌++◌, refl, sym, ap, subst, ◌∙◌}
 use Rattle.std.specs.List.{Contains}
 use Rattle.std.specs.Str.{bytes_eq}
-use Rattle.std.proofs.lemmas.List.Elements.{Contains-append_left, Contains-append_right, Contains-append_cases, Contains-push, Contains-push_cases}
+use Rattle.std.proofs.lemmas.List.Elements.{Contains-append_left, Contains-append_right, Contains-push, Contains-push_cases}
 use Rattle.command.specs.declared.command.Command.{Command}
-use Rattle.command.specs.Ancestors.{Ancestor}
 use Rattle.command.specs.Closed.{IsClosed}
-use Rattle.command.specs.Each.{Each, EachAfter}
+use Rattle.command.specs.Each.{EachAfter}
 use Rattle.command.specs.Wire.{command_id}
 use Rattle.command.proofs.ClosedFacts.{bytes_of_same, same_by_id, same_bytes}
 use Rattle.command.proofs.KnownAncestors.{known_id}

@@ -1,29 +1,28 @@
 -- How the braid goes on: the start, one command more, and the end.
-use Rattle.std.proofs.Common.{◌≡◌, ℕ, ◌<◌, ◌⊎◌, ◌↔◌, inl, inr, Bool, true, false, IsTrue, List, [], ◌∷◌, ◌++◌, length, reverse, Option, None, Some, refl, sym, ap, subst, ◌∙◌}
+use Rattle.std.proofs.Common.{◌≡◌, ℕ, ◌<◌, ◌⊎◌, ◌↔◌, inl, inr, Bool, true, false, List, [], ◌∷◌, ◌++◌, length, reverse, refl, sym, ap, subst, ◌∙◌}
 use Rattle.std.specs.List.{All, Contains}
-use Rattle.std.specs.Str.{bytes_eq}
-use Rattle.std.proofs.lemmas.List.Elements.{Contains-append_left, Contains-append_right, Contains-append_cases, Contains-push, Contains-push_cases, All-contains}
+use Rattle.std.proofs.lemmas.List.Elements.{Contains-append_left, Contains-append_cases}
 use Rattle.command.specs.declared.command.Command.{Command}
-use Rattle.command.specs.Ancestors.{Ancestor, IsAt, IsParent, IsUnder, IsUpTo}
+use Rattle.command.specs.Ancestors.{Ancestor, IsAt, IsParent, IsUnder}
 use Rattle.command.specs.Ancestors.Ancestor.{Parent, Further}
-use Rattle.command.specs.Closed.{IsClosed, place_of}
-use Rattle.command.specs.Each.{Each, EachAfter}
+use Rattle.command.specs.Closed.{IsClosed}
+use Rattle.command.specs.Each.{EachAfter}
 use Rattle.command.specs.Kinds.{is_merge, parents_of}
 use Rattle.command.specs.Wire.{command_id}
-use Rattle.command.proofs.AncestorFacts.{from_newest, newer_inside, not_itself, older_inside, trans, under_down}
-use Rattle.command.proofs.ClosedFacts.{held_command, parents_held, same_by_id}
+use Rattle.command.proofs.AncestorFacts.{from_newest, not_itself, trans, under_down}
+use Rattle.command.proofs.ClosedFacts.{same_by_id}
 use Rattle.command.proofs.KnownAncestors.{known_id}
 use Rattle.command.proofs.ListFacts.{at_head, behind_head, head_cases, none_element}
 use Rattle.command.proofs.PlaceFacts.{inside_at, one_place, place_at, place_is}
 use Rattle.braid.specs.Braids.{IsBraidUnder, IsPlaced, IsTop, picked}
 use Rattle.braid.specs.Lower.{IsLower}
-use Rattle.braid.specs.Working.{AddsWhere, HasChild, IsAmong, IsBefore, IsFirst, IsFree, Placing, has_parent, struck}
+use Rattle.braid.specs.Working.{AddsWhere, HasChild, IsAmong, IsFirst, IsFree, Placing, has_parent, struck}
 use Rattle.braid.proofs.Additions.{is_parent_of, parent_is}
 use Rattle.braid.proofs.Agreement.{merge_cases}
 use Rattle.braid.proofs.Existence.{plain, plain_has, plain_was}
 use Rattle.braid.proofs.PickOrder.{command_at, lower_before, merge_before, one_at}
 use Rattle.braid.proofs.Places.{among_picked, picked_among, picked_more, reverse_more, struck_has, struck_was}
-use Rattle.braid.proofs.Placing.{Same, each_same, taking, without, without_differs, without_has, without_was}
+use Rattle.braid.proofs.Placing.{each_same, taking, without, without_differs, without_has, without_was}
 
 -- a command that is the parent of none that is left is an ancestor of none
 free_is_top : (cs : List Command) (left : List ℕ) → ((m y : Command) → IsParent cs m y → IsAmong cs left y → IsAmong cs left m) → (place : ℕ) (z : Command) → IsAt cs place z → IsFree cs left place →

@@ -1,5 +1,5 @@
 -- There is one braid: two orders of the same commands, each placed as the braid asks, are the same.
-use Rattle.std.proofs.Common.{◌≡◌, ℕ, ◌⊎◌, ◌↔◌, inl, inr, List, [], ◌∷◌, ◌++◌, refl, sym, ap, subst, ◌∙◌}
+use Rattle.std.proofs.Common.{◌≡◌, ◌↔◌, inl, inr, List, [], ◌∷◌, ◌++◌, sym, ap, subst, ◌∙◌}
 use Rattle.std.specs.List.{Contains}
 use Rattle.std.proofs.lemmas.List.Elements.{Contains-append_left, Contains-push, Contains-push_cases}
 use Rattle.command.specs.declared.command.Command.{Command}
@@ -8,7 +8,6 @@ use Rattle.command.specs.Each.{Each}
 use Rattle.command.specs.Wire.{command_id}
 use Rattle.command.proofs.ListFacts.{each_before, each_last, end_cases, from_end, none_element}
 use Rattle.braid.specs.Braids.{IsPlaced, IsTop}
-use Rattle.braid.specs.Lower.{IsLower}
 use Rattle.braid.proofs.Order.{lower_cases}
 
 module _ (cs ds : List Command) where

@@ -2,9 +2,7 @@
 use Rattle.std.specs.Prelude.{◌≡◌, ◌↔◌, true, false, List, ◌++◌}
 use Rattle.std.specs.List.{Contains}
 use Rattle.command.specs.declared.command.Command.{Command}
-use Rattle.command.specs.Ancestors.{AreInLine}
-use Rattle.command.specs.Closed.{IsClosed}
-use Rattle.command.specs.Kinds.{is_finalize, is_merge}
+use Rattle.command.specs.Kinds.{is_merge}
 use Rattle.command.specs.Wire.{command_id}
 use Rattle.braid.specs.Braids.{IsBraid, IsBraidTo}
 

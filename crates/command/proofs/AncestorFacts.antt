@@ -1,14 +1,14 @@
 -- Ancestors: chains of links, what an append leaves as it was, and inductions from the newest command down.
-use Rattle.std.proofs.Common.{◌≡◌, ℕ, ◌⊎◌, inl, inr, List, [], ◌∷◌, ◌++◌, refl, sym, ap, subst, ◌∙◌}
+use Rattle.std.proofs.Common.{ℕ, inl, inr, List, [], ◌∷◌, ◌++◌, sym, subst}
 use Rattle.std.specs.List.{Contains}
-use Rattle.std.proofs.lemmas.List.Elements.{Contains-append_left, Contains-append_right, Contains-append_cases, Contains-push, Contains-push_cases}
+use Rattle.std.proofs.lemmas.List.Elements.{Contains-append_left, Contains-push, Contains-push_cases}
 use Rattle.command.specs.declared.command.Command.{Command}
-use Rattle.command.specs.Ancestors.{Ancestor, IsParent, IsUnder, IsUpTo}
+use Rattle.command.specs.Ancestors.{Ancestor, IsParent, IsUnder}
 use Rattle.command.specs.Ancestors.Ancestor.{Parent, Further}
-use Rattle.command.specs.Closed.{IsClosed, IsHeld, IsNext}
+use Rattle.command.specs.Closed.{IsClosed, IsNext}
 use Rattle.command.specs.Kinds.{parents_of}
 use Rattle.command.specs.Wire.{command_id}
-use Rattle.command.proofs.ClosedFacts.{held_by, held_command, held_more, parents_held, same_by_id}
+use Rattle.command.proofs.ClosedFacts.{held_command, parents_held, same_by_id}
 use Rattle.command.proofs.ListFacts.{each_before, each_last, each_left, from_end, none_element}
 
 pub trans : (cs : List Command) (x y z : Command) → Ancestor cs x y → Ancestor cs y z → Ancestor cs x z

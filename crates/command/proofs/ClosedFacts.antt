@@ -3,12 +3,12 @@ use Rattle.std.proofs.Common.{◌≡◌, ℕ, ◌⊎◌, inl, inr, Bool, true, f
 use Rattle.std.specs.List.{Contains}
 use Rattle.std.specs.Str.{bytes_eq}
 use Rattle.std.proofs.lemmas.Slice.Eq.{bytes_eq-Decides}
-use Rattle.std.proofs.lemmas.List.Elements.{Contains-append_left, Contains-append_right, Contains-append_cases, Contains-push, Contains-push_cases}
+use Rattle.std.proofs.lemmas.List.Elements.{Contains-append_left, Contains-push_cases}
 use Rattle.command.specs.declared.command.Command.{Command}
 use Rattle.command.specs.Closed.{has_id, IsClosed, IsHeld, IsNext}
 use Rattle.command.specs.Kinds.{parents_of}
 use Rattle.command.specs.Wire.{command_id}
-use Rattle.command.proofs.ListFacts.{at_head, behind_head, each_before, each_last, each_more, from_end, head_cases, none_element}
+use Rattle.command.proofs.ListFacts.{at_head, behind_head, each_before, each_last, from_end, head_cases, none_element}
 
 -- what an `||` says
 pub either : (a b : Bool) → IsTrue (a || b) → IsTrue a ⊎ IsTrue b

@@ -1,16 +1,16 @@
 -- Whether a command is an ancestor of another can be found out.
-use Rattle.std.proofs.Common.{◌≡◌, ℕ, ◌⊎◌, inl, inr, Bool, true, false, IsTrue, List, [], ◌∷◌, ◌++◌, refl, sym, ap, subst, ◌∙◌}
+use Rattle.std.proofs.Common.{◌≡◌, ℕ, ◌⊎◌, inl, inr, Bool, true, false, List, [], ◌∷◌, ◌++◌, refl, sym, ap, subst, ◌∙◌}
 use Rattle.std.specs.List.{Contains}
 use Rattle.std.specs.Str.{bytes_eq}
 use Rattle.std.proofs.lemmas.List.Elements.{Contains-append_left, Contains-append_right, Contains-push, Contains-push_cases}
 use Rattle.command.specs.declared.command.Command.{Command}
 use Rattle.command.specs.Ancestors.{Ancestor, IsParent}
 use Rattle.command.specs.Ancestors.Ancestor.{Parent, Further}
-use Rattle.command.specs.Closed.{has_id, IsClosed, IsHeld, IsNext}
+use Rattle.command.specs.Closed.{IsClosed, IsHeld, IsNext}
 use Rattle.command.specs.Kinds.{parents_of}
 use Rattle.command.specs.Wire.{command_id}
 use Rattle.command.proofs.AncestorFacts.{kept, newest_top, was}
-use Rattle.command.proofs.ClosedFacts.{bytes_of_same, held_by, held_command, held_more, same_by_id, same_bytes}
+use Rattle.command.proofs.ClosedFacts.{bytes_of_same, held_command, same_by_id, same_bytes}
 use Rattle.command.proofs.ListFacts.{each_before, each_last, from_end, head_cases, none_element}
 
 abbrev pub Known : Type 0 → Type 0

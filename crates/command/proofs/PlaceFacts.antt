@@ -1,5 +1,5 @@
 -- Places in a list of commands.
-use Rattle.std.proofs.Common.{◌≡◌, ℕ, suc, ◌+◌, ◌-◌, ◌<◌, ◌≤◌, ◌⊎◌, inl, inr, Bool, true, false, cond, not, List, [], ◌∷◌, ◌++◌, length, take, drop, get_or, slice_get, Option, Some, None, refl, sym, ap, subst, ◌∙◌, arith, add-one, drop-cons, length-take}
+use Rattle.std.proofs.Common.{◌≡◌, ℕ, suc, ◌+◌, ◌<◌, ◌≤◌, ◌⊎◌, inl, inr, Bool, true, false, cond, not, List, [], ◌∷◌, ◌++◌, length, take, drop, get_or, slice_get, Some, refl, sym, ap, subst, ◌∙◌, arith, add-one, drop-cons, length-take}
 use Rattle.std.specs.List.{Contains, position, prefix_len}
 use Rattle.std.specs.Str.{bytes_eq}
 use Rattle.std.proofs.Math.Seq.{take-suc}
@@ -39,7 +39,7 @@ pub none_before : (cs : List Command) → IsClosed cs → (place : ℕ) (x y : C
 none_before cs closed place x y is above before =
     let same = cut_at cs place x is in
     let older = older_inside (take place cs) x y
-          (was (take place cs) (x ∷ drop (place + 1) cs) (subst IsClosed same closed) x y before (subst (λ l. Ancestor l x y) same above)) in
+    (was (take place cs) (x ∷ drop (place + 1) cs) (subst IsClosed same closed) x y before (subst (λ l. Ancestor l x y) same above)) in
     (next_at cs closed place x is).fresh (held_by (take place cs) x older)
 
 -- a command at a place, among those before a further one
@@ -58,6 +58,7 @@ older_first cs closed i j x y there here le above =
   where
     order : (i j : ℕ) → j ≤ i → (i ≡ j) ⊎ (j < i)
     order i j le = elim (cases_lt j i) [ inl lt ↦ inr lt | inr ge ↦ inl (omega (arith, le, ge)) ]
+
     one_at : (i j : ℕ) → i ≡ j → IsAt cs i x → IsAt cs j y → y ≡ x
     one_at i j same there here = let both : Some y ≡ Some x = sym here ∙ ap (λ k. slice_get cs k) (sym same) ∙ there in cc
 
@@ -79,6 +80,7 @@ prefix_short test (y ∷ xs) x h passes = elim (head_cases y xs x h) [ inl same 
     here : (b : Bool) → b ≡ true → cond (not b) (1 + prefix_len (λ y. not (test y)) xs) 0 < suc (length xs)
     here true is = omega arith
     here false is = absurd cc
+
     behind : (b : Bool) → prefix_len (λ y. not (test y)) xs < length xs → cond (not b) (1 + prefix_len (λ y. not (test y)) xs) 0 < suc (length xs)
     behind true lt = omega arith
     behind false lt = omega (arith, lt)

@@ -1,17 +1,16 @@
 -- Which commands of the front of a list a command is an ancestor of, by the ids of these.
-use Rattle.std.proofs.Common.{◌≡◌, ℕ, ◌+◌, ◌⊎◌, ◌↔◌, inl, inr, Bool, true, false, ◌||◌, if◌then◌else◌, IsTrue, List, [], ◌∷◌, ◌++◌, take, drop, refl, sym, ap, subst, ◌∙◌}
+use Rattle.std.proofs.Common.{◌≡◌, ℕ, ◌⊎◌, inl, inr, Bool, true, false, ◌||◌, IsTrue, List, [], ◌∷◌, ◌++◌, refl, sym, ap, subst, ◌∙◌}
 use Rattle.std.specs.List.{Contains, list_any}
 use Rattle.std.specs.Str.{bytes_eq}
-use Rattle.std.proofs.lemmas.List.Elements.{Contains-append_left, Contains-push, Contains-push_cases}
+use Rattle.std.proofs.lemmas.List.Elements.{Contains-append_left, Contains-push_cases}
 use Rattle.command.specs.declared.command.Command.{Command}
-use Rattle.command.specs.Ancestors.{Ancestor, IsAt, IsParent}
+use Rattle.command.specs.Ancestors.{Ancestor, IsParent}
 use Rattle.command.specs.Ancestors.Ancestor.{Parent, Further}
 use Rattle.command.specs.Closed.{IsClosed, IsNext}
 use Rattle.command.specs.Kinds.{parents_of}
 use Rattle.command.specs.Wire.{command_id}
 use Rattle.command.proofs.ClosedFacts.{bytes_of_same, either, by_left, by_right, held_command, same_by_id, same_bytes}
-use Rattle.command.proofs.KnownAncestors.{LinksTo, ancestor_reaches, reaches_is_ancestor}
-use Rattle.command.proofs.AncestorFacts.{kept, was}
+use Rattle.command.proofs.AncestorFacts.{kept}
 use Rattle.command.proofs.ListFacts.{at_head, behind_head, each_cut, head_cases, in_middle, none_element}
 
 -- a test of a list passes where it passes of one of its elements

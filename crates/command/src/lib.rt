@@ -1,4 +1,4 @@
-//! Commands: their form as bytes, the part that is sealed, and their ids.
+//! Commands: their form as bytes, the part that is sealed, their ids; and what a graph of commands is.
 #![tactic(auto)]
 
 mod bodies;

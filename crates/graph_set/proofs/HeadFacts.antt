@@ -1,12 +1,12 @@
 -- Parents and heads, as the loops gather them.
-use Rattle.std.proofs.Common.{◌≡◌, ℕ, suc, ◌+◌, ◌≤◌, Bool, true, false, ◌||◌, if◌then◌else◌, List, [], ◌∷◌, ◌++◌, length, take, drop, slice_get, Option, Some, None, option_map, refl, sym, ap, subst, ◌∙◌, arith, add-one, append_assoc, append-nil, drop-cons}
+use Rattle.std.proofs.Common.{◌≡◌, ℕ, suc, ◌+◌, ◌≤◌, Bool, true, false, ◌||◌, if◌then◌else◌, List, [], ◌∷◌, ◌++◌, length, take, drop, slice_get, Option, Some, None, option_map, refl, sym, ap, ◌∙◌, add-one, append_assoc, append-nil, drop-cons}
 use Rattle.std.specs.List.{list_any}
 use Rattle.std.specs.Str.{bytes_eq}
 use Rattle.std.proofs.lemmas.List.{drop_all}
 use Rattle.std.proofs.lemmas.List.Folds.{list_any-append}
 use Rattle.std.proofs.lemmas.Option.{get_or_from_slice_get, slice_get_within}
 use Rattle.command.specs.declared.command.Command.{Command}
-use Rattle.command.specs.Ancestors.{heads, is_parent, places_without}
+use Rattle.command.specs.Ancestors.{is_parent, places_without}
 use Rattle.command.specs.Kinds.{parents_of}
 use Rattle.command.specs.Wire.{command_id}
 use Rattle.command.proofs.PlaceFacts.{take_one_more}

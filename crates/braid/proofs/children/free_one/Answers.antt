@@ -1,4 +1,4 @@
-use Rattle.std.proofs.Common.{◌≡◌, ℕ, List, [], ◌∷◌, Some, true, false, sym, subst, ◌∙◌}
+use Rattle.std.proofs.Common.{ℕ, List, [], ◌∷◌, sym, subst, ◌∙◌}
 use Rattle.braid.specs.Working.{AddsWhere, HasChild}
 use Rattle.braid.proofs.Additions.{adds_nowhere, adds_one}
 use Rattle.braid.proofs.children.free_one.Goals as goal

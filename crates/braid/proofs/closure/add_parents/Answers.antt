@@ -1,4 +1,4 @@
-use Rattle.std.proofs.Common.{◌≡◌, ℕ, List, [], ◌∷◌, sym, subst}
+use Rattle.std.proofs.Common.{ℕ, List, [], ◌∷◌, sym, subst}
 use Rattle.command.specs.Kinds.{parents_of}
 use Rattle.braid.specs.Working.{AddsWhere}
 use Rattle.braid.proofs.Additions.{adds_both}

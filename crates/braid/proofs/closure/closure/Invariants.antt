@@ -1,8 +1,4 @@
-use Rattle.std.proofs.Common.{◌≡◌, ℕ, ◌-◌, ◌<◌, ◌≤◌, length, take}
-use Rattle.std.specs.List.{All, Contains}
-use Rattle.command.specs.Ancestors.{IsAt, IsParent, IsUnder}
-use Rattle.command.specs.declared.command.Command.{Command}
-use Rattle.braid.specs.Working.{IsAmong}
+use Rattle.std.proofs.Common.{◌-◌, length}
 use Rattle.braid.proofs.Gathering.{Gathered}
 use Rattle.braid.proofs.closure.closure.Given as goal
 

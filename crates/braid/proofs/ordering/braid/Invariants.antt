@@ -1,4 +1,4 @@
-use Rattle.std.proofs.Common.{◌<◌, length, vec_len}
+use Rattle.std.proofs.Common.{length}
 use Rattle.braid.specs.Working.{Placing}
 use Rattle.braid.proofs.ordering.braid.Given as goal
 

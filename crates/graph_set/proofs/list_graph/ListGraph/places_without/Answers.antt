@@ -1,4 +1,4 @@
-use Rattle.std.proofs.Common.{◌≡◌, ℕ, Bool, List, arith}
+use Rattle.std.proofs.Common.{ℕ, Bool, List, arith}
 use Rattle.std.specs.List.{list_any}
 use Rattle.std.specs.Str.{bytes_eq}
 use Rattle.command.specs.Ancestors.{places_without}

@@ -1,5 +1,5 @@
-use Rattle.std.proofs.Common.{◌≡◌, ◌++◌, ◌∷◌, [], take, sym, ap, subst, ◌∙◌}
-use Rattle.command.specs.Closed.{IsHeld, IsNext}
+use Rattle.std.proofs.Common.{◌++◌, ◌∷◌, [], take, sym, ap, subst, ◌∙◌}
+use Rattle.command.specs.Closed.{IsHeld}
 use Rattle.command.specs.Wire.{IsInForm, command_id}
 use Rattle.command.proofs.PlaceFacts.{next_at, take_one_more}
 use Rattle.indexmap.specs.IndexMap.{values}
