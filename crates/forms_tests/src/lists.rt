@@ -4,6 +4,7 @@ use base_bytes::{
     Arg, Bytes, Id, Ids, NoMemory, Shape, Shapes, Steps, Tag, Text, Ty, Value, Values,
     are_same_values, copy_values,
 };
+use command::{Command, Commands};
 use sqlite_items::{Boxed, Items};
 use std::alloc::Global;
 use std::marker::Brand;
@@ -42,6 +43,34 @@ fn small_lists_grow(rt: HostRuntime) -> Result<(), Fail> {
     let ids = grown_ids(alloc)?;
     assert!(rt; ids.as_slice() == [Id::new([1; 32]), Id::new([2; 32])].as_slice());
     assert!(rt; ids.len() == 2);
+    Ok(())
+}
+
+fn grown_commands(alloc: Global) -> Result<Commands, NoMemory> {
+    let merge = Command::Merge {
+        left: Id::new([1; 32]),
+        right: Id::new([2; 32]),
+    };
+    let mut commands = Commands::from_slice(alloc, &[merge])?;
+    commands.push(Command::Merge {
+        left: Id::new([3; 32]),
+        right: Id::new([4; 32]),
+    })?;
+    commands.copy(alloc)
+}
+
+#[test]
+fn lists_of_commands_grow(rt: HostRuntime) -> Result<(), Fail> {
+    let alloc = rt.alloc();
+    let commands = grown_commands(alloc)?;
+    assert!(rt; commands.len() == 2);
+    assert!(rt;
+        matches!(
+            commands.as_slice(),
+            [Command::Merge { .. }, Command::Merge { .. }]
+        )
+    );
+    assert!(rt; Commands::new(alloc).as_slice().is_empty());
     Ok(())
 }
 
