@@ -13,7 +13,7 @@ use Rattle.command.proofs.KnownAncestors.{ancestor_known}
 use Rattle.command.proofs.ListFacts.{each_cut, each_left, head_cases, in_middle, split_at}
 use Rattle.braid.specs.Braids.{IsBraid, IsBraidTo, IsPlaced, IsTop}
 use Rattle.braid.specs.Lower.{IsLower}
-use Rattle.braid.proofs.Agreement.{one_braid}
+use Rattle.braid.specs.Agreeing.{IsFinal}
 
 no_merge : (f : Command) → is_finalize f ≡ true → is_merge f ≡ false
 no_merge (Init digest author name payload tag) is = refl
@@ -101,10 +101,9 @@ module _ (cs : List Command) (closed : IsClosed cs) (f : Command) (front behind 
             x (in_front x h).0 h not_above)
       ]
 
-pub final : (cs : List Command) → IsClosed cs → AreInLine cs → (f : Command) → Contains cs f → is_finalize f ≡ true → (braid part : List Command) → IsBraid cs braid → IsBraidTo cs f part → (rest : List Command) × (braid ≡ part ++ rest)
-final cs closed line f inside is braid part whole of =
+pub final : (cs : List Command) → IsClosed cs → AreInLine cs → (f : Command) → Contains cs f → is_finalize f ≡ true → IsFinal cs f
+final cs closed line f inside is braid whole =
     let cut = split_at braid f ((whole.holds f).1 (inside, tt, no_merge f is)) in
     let there = subst (λ l. IsBraid cs l) cut.2 whole in
     let front = front_is_braid cs closed f cut.0 cut.1 there (before_finalize cs closed f cut.0 cut.1 there line is) in
-    let same = one_braid cs closed (IsUpTo cs f) (cut.0 ++ f ∷ []) part front of in
-    (cut.1, cut.2 ∙ sym (append_assoc cut.0 (f ∷ []) cut.1) ∙ ap (λ l. l ++ cut.1) same)
+    (cut.0 ++ f ∷ [], cut.1, front, cut.2 ∙ sym (append_assoc cut.0 (f ∷ []) cut.1))

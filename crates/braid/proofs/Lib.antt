@@ -10,3 +10,4 @@ pub mod Places
 pub mod Additions
 pub mod Progress
 pub mod Gathering
+pub mod Closures

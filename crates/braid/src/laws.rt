@@ -4,7 +4,7 @@ ghost use Rattle.command.specs.Ancestors.{AreInLine};
 ghost use Rattle.command.specs.Closed.{IsClosed};
 ghost use Rattle.command.specs.Kinds.{is_finalize};
 ghost use Rattle.command.specs.declared.command.Command.{Command};
-ghost use Rattle.braid.specs.Agreeing.{Agree, HasOneBraid, HaveOneBraid, IsFinal};
+ghost use Rattle.braid.specs.Agreeing.{Agree, ClosuresHaveOneBraid, HasOneBraid, HaveOneBraid, IsFinal, Stays};
 
 /// Each closed list of commands has exactly one braid.
 pub fn lists_have_one_braid()
@@ -14,6 +14,17 @@ pub fn lists_have_one_braid()
 /// Closed lists that agree have the same braid, whatever their merges and the orders in which they stand.
 pub fn agreeing_lists_have_one_braid()
     ensures { (one other : List Command) → IsClosed one → IsClosed other → Agree one other → HaveOneBraid one other }
+{}
+
+/// The braid under tips is the braid of their closure, as a closed list of its own, and there is one. Under the heads of a
+/// closed list it is the braid of the list.
+pub fn closures_have_one_braid()
+    ensures { (commands : List Command) → IsClosed commands → ClosuresHaveOneBraid commands }
+{}
+
+/// What is appended leaves the braid of a command's closure as it was.
+pub fn closures_stay()
+    ensures { (commands : List Command) (command : Command) → IsClosed commands → Contains commands command → Stays commands command }
 {}
 
 /// The braid of a finalize's closure begins the whole braid, where finalize commands are in line.

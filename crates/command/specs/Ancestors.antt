@@ -12,7 +12,7 @@ pub record IsParent (cs : List Command) (x y : Command) : Type 0 where
   pub newer : Contains cs y
   pub link : Contains (parents_of y) (command_id x)
 
--- x is a parent of y, or of an ancestor of y
+-- x is a parent of y, or an ancestor of a parent of y
 pub data Ancestor (cs : List Command) (x : Command) : Command → Type 0 where
   Parent : {y : Command} → IsParent cs x y → Ancestor cs x y
   Further : {m y : Command} → Ancestor cs x m → IsParent cs m y → Ancestor cs x y

@@ -1,4 +1,4 @@
-use crate::made::{Step, append, command, made};
+use crate::made::{Step, append, command, id_at, made};
 use base_bytes::{Id, NoMemory};
 use command::Graph;
 use graph_set::ListGraph;
@@ -48,6 +48,9 @@ fn a_copy_stays(rt: HostRuntime) -> Result<(), Fail> {
     assert!(rt; is_appended);
     assert!(rt; graph.spare().saturating_add(1) == room);
     assert!(rt; graph.len() == 4 && copy.len() == 3);
+    for place in 0..copy.len() {
+        assert!(rt; id_at(&copy, place) == id_at(&graph, place), "{place}");
+    }
     Ok(())
 }
 

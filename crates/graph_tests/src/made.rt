@@ -34,8 +34,8 @@ fn tag() -> Tag {
     Tag::from_slice(&[]).unwrap()
 }
 
-/// The id of the command at a place.
-fn id_at<G: Graph>(graph: &G, place: usize) -> Option<Id> {
+/// The id of the command at a place, and None where none stands there.
+pub fn id_at<G: Graph>(graph: &G, place: usize) -> Option<Id> {
     if place < graph.len() {
         Some(graph.id_at(place))
     } else {

@@ -170,7 +170,7 @@ pub const ROWS: [Row; 18] = [
     },
     Row {
         name: "a finalize beside the greatest priority",
-        steps: &[Step::Init, Step::Basic(9, 0), Step::Finalize(0)],
+        steps: &[Step::Init, Step::Basic(4294967295, 0), Step::Finalize(0)],
         tips: &[1, 2],
         braid: &[0, 2, 1],
         heads: &[1, 2],

@@ -1,0 +1,246 @@
+-- The braid of a closure: in a list of its own, in a longer list, and under the heads.
+use Rattle.std.proofs.Common.{◌≡◌, ℕ, zero, suc, ◌+◌, ◌↔◌, if◌then◌else◌, inl, inr, Bool, true, false, List, [], ◌∷◌, ◌++◌, slice_get, Option, Some, None, refl, sym, ap, subst, ◌∙◌, arith, append_assoc}
+use Rattle.std.specs.List.{Contains, list_any}
+use Rattle.std.specs.Str.{bytes_eq}
+use Rattle.std.proofs.lemmas.List.Elements.{Contains-append_left, Contains-append_right, Contains-push, Contains-push_cases}
+use Rattle.std.proofs.lemmas.Option.{same_Some}
+use Rattle.command.specs.declared.command.Command.{Command}
+use Rattle.command.specs.Ancestors.{Ancestor, IsAt, IsParent, IsUnder, IsUpTo, heads, is_parent, places_without}
+use Rattle.command.specs.Ancestors.Ancestor.{Parent}
+use Rattle.command.specs.Closed.{IsClosed, IsHeld, IsNext}
+use Rattle.command.specs.Each.{EachAfter}
+use Rattle.command.specs.Kinds.{parents_of}
+use Rattle.command.specs.Wire.{command_id}
+use Rattle.command.proofs.AncestorFacts.{ancestor_down, from_newest, kept, older_inside, under_down, was}
+use Rattle.command.proofs.ClosedFacts.{held_by, held_command, same_bytes}
+use Rattle.command.proofs.KnownAncestors.{Known, ancestor_known, known_same}
+use Rattle.command.proofs.ListFacts.{at_head, behind_head, head_cases, each_before, each_last, each_more, from_end, none_element}
+use Rattle.command.proofs.PlaceFacts.{inside_at}
+use Rattle.command.proofs.ReachFacts.{any_found}
+use Rattle.braid.specs.Agreeing.{ClosuresHaveOneBraid, IsClosure, Stays}
+use Rattle.braid.specs.Braids.{IsBraid, IsBraidTo, IsBraidUnder, IsPlaced}
+use Rattle.braid.proofs.Agreement.{one_braid}
+use Rattle.braid.proofs.Gathering.{place_of_member}
+
+-- places carried to another list, where the ancestors among the placed are the same
+module _ (cs ds : List Command) (In : Command → Type 0) (agree : (x y : Command) → In x → In y → Ancestor cs x y ↔ Ancestor ds x y) where
+  place_carried : (front : List Command) (x : Command) → ((z : Command) → Contains (front ++ x ∷ []) z → In z) → IsPlaced cs front x → IsPlaced ds front x
+  place_carried front x within p = record {
+    once = p.once;
+    above = λ z h a. p.above z h ((agree x z (within x (Contains-push front x)) (within z h)).1 a);
+    lowest = λ y h top. p.lowest y h (λ z k a. top z k ((agree y z (within y (Contains-append_left front (x ∷ []) y h)) (within z k)).0 a));
+  }
+
+  carried : (front xs : List Command) → ((z : Command) → Contains (front ++ xs) z → In z) → EachAfter (IsPlaced cs) front xs → EachAfter (IsPlaced ds) front xs
+  carried front [] within h = tt
+  carried front (x ∷ xs) within h =
+      let one : (z : Command) → Contains ((front ++ x ∷ []) ++ xs) z → In z = λ z k. within z (subst (λ l. Contains l z) (append_assoc front (x ∷ []) xs) k) in
+      (place_carried front x (λ z k. one z (Contains-append_left (front ++ x ∷ []) xs z k)) h.0, carried (front ++ x ∷ []) xs one h.1)
+
+-- ---- a closure in a list of its own
+
+module _ (cs : List Command) (tips : List ℕ) (part : List Command) (is : IsClosure cs tips part) where
+  wider : (x y : Command) → Contains part x → Contains part y → Ancestor part x y → Ancestor cs x y
+  wider x y h k a = ancestor_down cs part (λ m z e inside. ((is.holds m).0 e.older).0) x y a ((is.holds y).0 k).0
+
+  narrower : (x y : Command) → Contains part x → Contains part y → Ancestor cs x y → Ancestor part x y
+  narrower x y h k a = ancestor_down part cs (λ m z e inside. (is.holds m).1 (e.older, under_down cs tips m z (Parent e) ((is.holds z).0 inside).1)) x y a k
+
+  into : (l : List Command) → IsBraid part l → IsBraidUnder cs tips l
+  into l p = record {
+    holds = λ x. (
+      (λ h. let there = (p.holds x).0 h in let both = (is.holds x).0 there.0 in (both.0, both.1, there.2)),
+      (λ h. (p.holds x).1 ((is.holds x).1 (h.0, h.1), tt, h.2)),
+    );
+    placed = carried part cs (λ z. Contains part z) (λ x y h k. (wider x y h k, narrower x y h k)) [] l (λ z h. ((p.holds z).0 h).0) p.placed;
+  }
+
+  out_of : (l : List Command) → IsBraidUnder cs tips l → IsBraid part l
+  out_of l p = record {
+    holds = λ x. (
+      (λ h. let there = (p.holds x).0 h in ((is.holds x).1 (there.0, there.1), tt, there.2)),
+      (λ h. let both = (is.holds x).0 h.0 in (p.holds x).1 (both.0, both.1, h.2)),
+    );
+    placed = carried cs part (λ z. Contains part z) (λ x y h k. (narrower x y h k, wider x y h k)) [] l
+        (λ z h. let there = (p.holds z).0 h in (is.holds z).1 (there.0, there.1)) p.placed;
+  }
+
+-- ---- there is such a list
+
+module _ (cs : List Command) (closed : IsClosed cs) where
+  up_known : (tip x : Command) → Contains cs tip → Contains cs x → Known (IsUpTo cs tip x)
+  up_known tip x there inside =
+      elim (known_same cs closed x tip inside there) [
+        | inl same ↦ inl (inl same)
+        | inr other ↦
+            elim (ancestor_known cs closed x tip inside there) [
+              | inl above ↦ inl (inr above)
+              | inr not_above ↦ inr (λ up. elim up [ inl same ↦ other same | inr above ↦ not_above above ])
+            ]
+      ]
+
+  abbrev IsUnderPlace : ℕ → Command → Type 0
+  IsUnderPlace place x = (tip : Command) × IsAt cs place tip × IsUpTo cs tip x
+
+  place_known : (place : ℕ) (x : Command) → Contains cs x → Known (IsUnderPlace place x)
+  place_known place x inside = by (slice_get cs place) refl
+    where
+      by : (o : Option Command) → slice_get cs place ≡ o → Known (IsUnderPlace place x)
+      by None is = inr (λ t. let both : None ≡ Some t.0 = sym is ∙ t.1 in absurd cc)
+      by (Some tip) is =
+          elim (up_known tip x (inside_at cs place tip is) inside) [
+            | inl up ↦ inl (tip, is, up)
+            | inr not_up ↦ inr (λ t. not_up (subst (λ z. IsUpTo cs z x) (same_Some t.0 tip (sym t.1 ∙ is)) t.2))
+          ]
+
+  under_known : (tips : List ℕ) (x : Command) → Contains cs x → Known (IsUnder cs tips x)
+  under_known [] x inside = inr (λ u. none_element u.0 u.1)
+  under_known (place ∷ tips) x inside =
+      elim (place_known place x inside) [
+        | inl here ↦ inl (place, at_head place tips, here)
+        | inr not_here ↦
+            elim (under_known tips x inside) [
+              | inl later ↦ inl (later.0, behind_head place tips later.0 later.1, later.2)
+              | inr not_later ↦
+                  inr
+                  (λ u. elim (head_cases place tips u.0 u.1) [
+                    | inl same ↦ not_here (subst (λ p. IsUnderPlace p x) (sym same) u.2)
+                    | inr behind ↦ not_later (u.0, behind, u.2)
+                  ])
+            ]
+      ]
+
+-- the commands of a closed list that meet a condition, which each parent of one meets
+module _ (cs : List Command) (P : Command → Type 0) (known : (x : Command) → Contains cs x → Known (P x)) (down : (m y : Command) → IsParent cs m y → P y → P m) where
+  record IsPartOf (front part : List Command) : Type 0 where
+    pub closed : IsClosed part
+    pub holds : (x : Command) → Contains part x ↔ (Contains front x × P x)
+
+  with_one : (front part : List Command) (c : Command) → IsNext front c → ((x : Command) → Contains (front ++ c ∷ []) x → Contains cs x) → IsPartOf front part → P c → IsPartOf (front ++ c ∷ []) (part ++ c ∷ [])
+  with_one front part c next within is that = record {
+    closed =
+        each_more IsNext part c is.closed
+        (record {
+          formed = next.formed;
+          fresh = λ held.
+              let d = held_command part (command_id c) held in
+              next.fresh (subst (λ id. IsHeld front id) d.2 (held_by front d.0 ((is.holds d.0).0 d.1).0));
+          held = λ id link.
+              let m = held_command front id (next.held id link) in
+              let e : IsParent cs m.0 c = record {
+                older = within m.0 (Contains-append_left front (c ∷ []) m.0 m.1);
+                newer = within c (Contains-push front c);
+                link = subst (λ i. Contains (parents_of c) i) (sym m.2) link;
+              } in
+              subst (λ i. IsHeld part i) m.2 (held_by part m.0 ((is.holds m.0).1 (m.1, down m.0 c e that)));
+        });
+    holds = λ x. (
+      (λ h. elim (Contains-push_cases part c x h) [
+        | inl older ↦ let both = (is.holds x).0 older in (Contains-append_left front (c ∷ []) x both.0, both.1)
+        | inr same ↦ subst (λ z. Contains (front ++ c ∷ []) z × P z) same (Contains-push front c, that)
+      ]),
+      (λ h. elim (Contains-push_cases front c x h.0) [
+        | inl older ↦ Contains-append_left part (c ∷ []) x ((is.holds x).1 (older, h.1))
+        | inr same ↦ subst (λ z. Contains (part ++ c ∷ []) z) same (Contains-push part c)
+      ]),
+    );
+  }
+
+  without_one : (front part : List Command) (c : Command) → IsPartOf front part → (P c → ⊥) → IsPartOf (front ++ c ∷ []) part
+  without_one front part c is other = record {
+    closed = is.closed;
+    holds = λ x. (
+      (λ h. let both = (is.holds x).0 h in (Contains-append_left front (c ∷ []) x both.0, both.1)),
+      (λ h. elim (Contains-push_cases front c x h.0) [
+        | inl older ↦ (is.holds x).1 (older, h.1)
+        | inr same ↦ absurd (other (subst P (sym same) h.1))
+      ]),
+    );
+  }
+
+  part_of : (front : List Command) → IsClosed front → ((x : Command) → Contains front x → Contains cs x) → (part : List Command) × IsPartOf front part
+  part_of = from_end (λ front. IsClosed front → ((x : Command) → Contains front x → Contains cs x) → (part : List Command) × IsPartOf front part)
+      (λ closed within. ([], record { closed = tt; holds = λ x. ((λ h. absurd (none_element x h)), (λ h. h.0)) }))
+      (λ front c before closed within.
+      let older = before (each_before IsNext front c closed) (λ x h. within x (Contains-append_left front (c ∷ []) x h)) in
+      elim (known c (within c (Contains-push front c))) [
+        | inl that ↦ (older.0 ++ c ∷ [], with_one front older.0 c (each_last IsNext front c closed) within older.1 that)
+        | inr other ↦ (older.0, without_one front older.0 c older.1 other)
+      ])
+
+-- ---- under the heads
+
+kept_here_place : (b : Bool) (n place : ℕ) (more : List ℕ) → b ≡ false → n ≡ place → Contains ((if b then [] else n ∷ []) ++ more) place
+kept_here_place true n place more is same = absurd cc
+kept_here_place false n place more is same = subst (λ p. Contains (n ∷ more) p) same (at_head n more)
+
+head_has : (test : List ℕ → Bool) (n : ℕ) (cs : List Command) (i place : ℕ) (x : Command) → n + i ≡ place → slice_get cs i ≡ Some x → test (command_id x) ≡ false → Contains (places_without test n cs) place
+head_has test n [] i place x sum is plain = absurd cc
+head_has test n (c ∷ cs) zero place x sum is plain =
+    kept_here_place (test (command_id c)) n place (places_without test (n + 1) cs) (ap (λ z. test (command_id z)) (same_Some c x is) ∙ plain) (omega (arith, sum))
+head_has test n (c ∷ cs) (suc i) place x sum is plain =
+    Contains-append_right (if test (command_id c) then [] else n ∷ []) (places_without test (n + 1) cs) place (head_has test (n + 1) cs i place x (omega (arith, sum)) is plain)
+
+module _ (cs : List Command) (closed : IsClosed cs) where
+  step : (y : Command) → Contains cs y → ((z : Command) → Ancestor cs y z → IsUnder cs (heads cs) z) → IsUnder cs (heads cs) y
+  step y inside above = by (is_parent cs (command_id y)) refl
+    where
+      by : (b : Bool) → is_parent cs (command_id y) ≡ b → IsUnder cs (heads cs) y
+      by true is =
+          let child = any_found (λ z. list_any (bytes_eq (command_id y)) (parents_of z)) cs is in
+          let link = any_found (bytes_eq (command_id y)) (parents_of child.0) child.2 in
+          let e : IsParent cs y child.0 = record { older = inside; newer = child.1; link = subst (λ i. Contains (parents_of child.0) i) (sym (same_bytes (command_id y) link.0 link.2)) link.1 } in
+          under_down cs (heads cs) y child.0 (Parent e) (above child.0 (Parent e))
+      by false is =
+          let place = place_of_member cs closed y inside in
+          (place.0, head_has (is_parent cs) 0 cs place.0 place.0 y (omega arith) place.1 is, (y, place.1, inl refl))
+
+  all_under : (x : Command) → Contains cs x → IsUnder cs (heads cs) x
+  all_under x inside = from_newest (λ y. IsUnder cs (heads cs) y) cs closed step x inside
+
+  whole : (l : List Command) → IsBraid cs l ↔ IsBraidUnder cs (heads cs) l
+  whole l = (
+    (λ p. record { holds = λ x. ((λ h. let there = (p.holds x).0 h in (there.0, all_under x there.0, there.2)), (λ h. (p.holds x).1 (h.0, tt, h.2))); placed = p.placed }),
+    (λ p. record { holds = λ x. ((λ h. let there = (p.holds x).0 h in (there.0, tt, there.2)), (λ h. (p.holds x).1 (h.0, all_under x h.0, h.2))); placed = p.placed }),
+  )
+
+  closure_of : (tips : List ℕ) → (part : List Command) × IsClosure cs tips part
+  closure_of tips =
+      let found = part_of cs (IsUnder cs tips) (under_known cs closed tips) (λ m y e. under_down cs tips m y (Parent e)) cs closed (λ x h. h) in
+      (found.0, record { closed = found.1.closed; holds = found.1.holds })
+
+  pub closures : ClosuresHaveOneBraid cs
+  closures = record {
+    some = closure_of;
+    own = λ tips part is l. (into cs tips part is l, out_of cs tips part is l);
+    one = λ tips a b. one_braid cs closed (IsUnder cs tips) a b;
+    all = whole;
+  }
+
+-- ---- after an append
+
+module _ (cs : List Command) (f : Command) (closed : IsClosed cs) (inside : Contains cs f) where
+  up_inside : (x : Command) → IsUpTo cs f x → Contains cs x
+  up_inside x up = elim up [ inl same ↦ subst (λ z. Contains cs z) (sym same) inside | inr above ↦ older_inside cs x f above ]
+
+  module _ (more part : List Command) (longer : IsClosed (cs ++ more)) (is : IsBraidTo cs f part) where
+    up_kept : (x : Command) → IsUpTo cs f x → IsUpTo (cs ++ more) f x
+    up_kept x up = elim up [ inl same ↦ inl same | inr above ↦ inr (kept cs more x f above) ]
+
+    up_was : (x : Command) → IsUpTo (cs ++ more) f x → IsUpTo cs f x
+    up_was x up = elim up [ inl same ↦ inl same | inr above ↦ inr (was cs more longer x f inside above) ]
+
+    kept_part : IsBraidTo (cs ++ more) f part
+    kept_part = record {
+      holds = λ x. (
+        (λ h. let there = (is.holds x).0 h in (Contains-append_left cs more x there.0, up_kept x there.1, there.2)),
+        (λ h. let up = up_was x h.1 in (is.holds x).1 (up_inside x up, up, h.2)),
+      );
+      placed = carried cs (cs ++ more) (λ z. Contains cs z) (λ x y h k. (kept cs more x y, was cs more longer x y k)) [] part (λ z h. ((is.holds z).0 h).0) is.placed;
+    }
+
+  pub stays : Stays cs f
+  stays = record {
+    one = λ a b. one_braid cs closed (IsUpTo cs f) a b;
+    kept = kept_part;
+  }
