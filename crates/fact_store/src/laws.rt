@@ -49,7 +49,7 @@ pub fn writes_stand_at_their_keys()
     ensures delete { (fact : ℕ) (keys : List Value) (rows : List Row) → LeavesAt fact keys [] (deleted fact keys rows) }
 {}
 
-/// What a longer prefix of keys finds is a part of what a shorter one finds.
+/// What a longer prefix of one fact finds, with the same named values or more, is a part of what the shorter one finds.
 pub fn longer_prefixes_find_less()
     ensures { (shorter longer : Wanted) (rows : List Row) → shorter.fact ≡ longer.fact → IsTrue (begins_with shorter.keys longer.keys)
         → ((values : List Value) → IsTrue (has_named longer.values values) → IsTrue (has_named shorter.values values))

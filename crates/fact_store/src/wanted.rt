@@ -9,7 +9,7 @@ use std::alloc::Global;
 use std::cmp::Ordering;
 
 /// What a query asks for: the rows of a fact whose keys begin with these and whose values are the named ones.
-/// Its order is that of where its rows begin, by fact and keys alone.
+/// Its order is that of where its rows begin, by fact and keys alone. So `==` ignores the named values, and is no equality of queries.
 #[derive(Drop)]
 pub struct Wanted {
     pub fact: u32,

@@ -1,114 +1,188 @@
-use crate::samples::{Key, Sample, filled, keys_of, numbers_of, one, row_of, wanted};
+use crate::samples::{
+    Held, Key, Query, Sample, assert_finds, filled, keys_of, row_of, values_of, wanted,
+};
 use base_bytes::NoMemory;
 use fact_store::{FactBase, Facts, WriteFault};
 use std::alloc::Global;
 use std::process::Abort;
 use std::test::*;
 
-const ROWS: [Sample; 3] = [
-    (1, &[Key::Int(1), Key::Int(1)], 1),
-    (1, &[Key::Int(1), Key::Int(2)], 2),
-    (2, &[], 3),
-];
+const AT_ONE: &'static [Key] = &[Key::Int(1), Key::Int(1)];
+
+const AT_TWO: &'static [Key] = &[Key::Int(1), Key::Int(2)];
+
+const ONE: Sample = (1, &[Key::Int(1), Key::Int(1)], &[Held::Int(1)]);
+
+const TWO: Sample = (
+    1,
+    &[Key::Int(1), Key::Int(2)],
+    &[Held::Int(2), Held::Int(20)],
+);
+
+const THREE: Sample = (2, &[], &[Held::Int(3)]);
+
+const ROWS: [Sample; 3] = [ONE, TWO, THREE];
+
+/// Rows that aren't there.
+const SHORTER: Sample = (1, &[Key::Int(1)], &[Held::Int(9)]);
+
+const LESSER: Sample = (1, &[Key::Int(1), Key::Int(0)], &[]);
+
+const TRUTH: Sample = (1, &[Key::Int(1), Key::Bool(false)], &[Held::Nothing]);
+
+const LONGER: Sample = (2, &[Key::Int(0)], &[Held::Int(9), Held::Text("x")]);
+
+/// Rows that are there, with other values.
+const OTHER_ONE: Sample = (1, &[Key::Int(1), Key::Int(1)], &[Held::Int(9)]);
+
+const OTHER_TWO: Sample = (1, &[Key::Int(1), Key::Int(2)], &[]);
+
+const OTHER_THREE: Sample = (2, &[], &[Held::Int(9)]);
 
 /// A change of the base: a row to create, values for a row that has some, or a row to delete.
 #[derive(Clone, Copy)]
 enum Change {
     Create(Sample),
-    Update(u32, &'static [Key], &'static [Option<i64>], i64),
+    Update(Query, &'static [Held]),
     Delete(u32, &'static [Key]),
 }
 
-/// A write of the three rows, its fault if it has one, and the numbers of facts 1 and 2 behind it.
-type Case = (Change, Option<WriteFault>, &'static [i64], &'static [i64]);
+/// A write, its fault if it has one, and the rows of facts 1 and 2 behind it.
+type Case = (
+    Change,
+    Option<WriteFault>,
+    &'static [Sample],
+    &'static [Sample],
+);
 
-const CASES: [Case; 16] = [
+const CASES: [Case; 20] = [
     (
-        Change::Create((1, &[Key::Int(1), Key::Int(1)], 9)),
+        Change::Create(OTHER_ONE),
         Some(WriteFault::Exists),
-        &[1, 2],
-        &[3],
+        &[ONE, TWO],
+        &[THREE],
     ),
     (
-        Change::Create((2, &[], 9)),
+        Change::Create(OTHER_THREE),
         Some(WriteFault::Exists),
-        &[1, 2],
-        &[3],
+        &[ONE, TWO],
+        &[THREE],
     ),
+    (Change::Create(LESSER), None, &[LESSER, ONE, TWO], &[THREE]),
     (
-        Change::Create((1, &[Key::Int(1), Key::Int(0)], 9)),
+        Change::Create(SHORTER),
         None,
-        &[9, 1, 2],
-        &[3],
+        &[SHORTER, ONE, TWO],
+        &[THREE],
     ),
+    (Change::Create(TRUTH), None, &[ONE, TWO, TRUTH], &[THREE]),
+    (Change::Create(LONGER), None, &[ONE, TWO], &[THREE, LONGER]),
     (
-        Change::Create((1, &[Key::Int(1)], 9)),
-        None,
-        &[9, 1, 2],
-        &[3],
-    ),
-    (
-        Change::Create((1, &[Key::Int(1), Key::Bool(false)], 9)),
-        None,
-        &[1, 2, 9],
-        &[3],
-    ),
-    (
-        Change::Create((2, &[Key::Int(0)], 9)),
-        None,
-        &[1, 2],
-        &[3, 9],
-    ),
-    (
-        Change::Update(1, &[Key::Int(1)], &[], 9),
+        Change::Update((1, &[Key::Int(1)], &[]), &[Held::Int(9)]),
         Some(WriteFault::Missing),
-        &[1, 2],
-        &[3],
+        &[ONE, TWO],
+        &[THREE],
     ),
     (
-        Change::Update(3, &[], &[], 9),
+        Change::Update((3, &[], &[]), &[Held::Int(9)]),
         Some(WriteFault::Missing),
-        &[1, 2],
-        &[3],
+        &[ONE, TWO],
+        &[THREE],
     ),
     (
-        Change::Update(2, &[], &[Some(4)], 9),
+        Change::Update((1, &[Key::Int(1)], &[Some(Held::Int(1))]), &[Held::Int(9)]),
+        Some(WriteFault::Missing),
+        &[ONE, TWO],
+        &[THREE],
+    ),
+    (
+        Change::Update((1, &[], &[Some(Held::Int(4))]), &[Held::Int(9)]),
+        Some(WriteFault::Missing),
+        &[ONE, TWO],
+        &[THREE],
+    ),
+    (
+        Change::Update((2, &[], &[Some(Held::Int(4))]), &[Held::Int(9)]),
         Some(WriteFault::Differs),
-        &[1, 2],
-        &[3],
+        &[ONE, TWO],
+        &[THREE],
     ),
     (
-        Change::Update(2, &[], &[None, Some(3)], 9),
+        Change::Update((2, &[], &[None, Some(Held::Int(3))]), &[Held::Int(9)]),
         Some(WriteFault::Differs),
-        &[1, 2],
-        &[3],
+        &[ONE, TWO],
+        &[THREE],
     ),
-    (Change::Update(2, &[], &[Some(3)], 9), None, &[1, 2], &[9]),
     (
-        Change::Update(1, &[Key::Int(1), Key::Int(2)], &[None, None], 9),
+        Change::Update((1, AT_TWO, &[None, Some(Held::Int(21))]), &[]),
+        Some(WriteFault::Differs),
+        &[ONE, TWO],
+        &[THREE],
+    ),
+    (
+        Change::Update((1, AT_TWO, &[Some(Held::Int(2)), Some(Held::Int(2))]), &[]),
+        Some(WriteFault::Differs),
+        &[ONE, TWO],
+        &[THREE],
+    ),
+    (
+        Change::Update((2, &[], &[Some(Held::Int(3))]), &[Held::Int(9)]),
         None,
-        &[1, 9],
-        &[3],
+        &[ONE, TWO],
+        &[OTHER_THREE],
+    ),
+    (
+        Change::Update((1, AT_TWO, &[None, Some(Held::Int(20)), None]), &[]),
+        None,
+        &[ONE, OTHER_TWO],
+        &[THREE],
     ),
     (
         Change::Delete(1, &[Key::Int(1)]),
         Some(WriteFault::Missing),
-        &[1, 2],
-        &[3],
+        &[ONE, TWO],
+        &[THREE],
     ),
     (
         Change::Delete(0, &[]),
         Some(WriteFault::Missing),
-        &[1, 2],
-        &[3],
+        &[ONE, TWO],
+        &[THREE],
+    ),
+    (Change::Delete(1, AT_ONE), None, &[TWO], &[THREE]),
+    (Change::Delete(2, &[]), None, &[ONE, TWO], &[]),
+];
+
+const QUERIES_OF_NONE: [Query; 4] = [
+    (0, &[], &[]),
+    (1, &[], &[None]),
+    (1, AT_TWO, &[]),
+    (1, AT_TWO, &[Some(Held::Int(2))]),
+];
+
+/// Writes of a base that has no rows.
+const CASES_OF_NONE: [Case; 6] = [
+    (Change::Create(TWO), None, &[TWO], &[]),
+    (Change::Create(THREE), None, &[], &[THREE]),
+    (
+        Change::Update((2, &[], &[]), &[Held::Int(9)]),
+        Some(WriteFault::Missing),
+        &[],
+        &[],
     ),
     (
-        Change::Delete(1, &[Key::Int(1), Key::Int(1)]),
-        None,
-        &[2],
-        &[3],
+        Change::Update((1, AT_TWO, &[Some(Held::Int(2))]), &[]),
+        Some(WriteFault::Missing),
+        &[],
+        &[],
     ),
-    (Change::Delete(2, &[]), None, &[1, 2], &[]),
+    (Change::Delete(2, &[]), Some(WriteFault::Missing), &[], &[]),
+    (
+        Change::Delete(1, AT_TWO),
+        Some(WriteFault::Missing),
+        &[],
+        &[],
+    ),
 ];
 
 fn changed<F: FactBase>(alloc: Global, facts: &mut F, change: Change) -> Result<(), WriteFault> {
@@ -117,9 +191,9 @@ fn changed<F: FactBase>(alloc: Global, facts: &mut F, change: Change) -> Result<
             let row = row_of(alloc, sample)?;
             facts.create(alloc, row)
         }
-        Change::Update(fact, keys, old, number) => {
-            let old = wanted(alloc, fact, keys, old)?;
-            let values = one(alloc, number)?;
+        Change::Update(old, values) => {
+            let old = wanted(alloc, old)?;
+            let values = values_of(alloc, values)?;
             facts.update(alloc, &old, values)
         }
         Change::Delete(fact, keys) => {
@@ -129,44 +203,49 @@ fn changed<F: FactBase>(alloc: Global, facts: &mut F, change: Change) -> Result<
     }
 }
 
+/// The base has just these rows of facts 1 and 2.
 fn assert_holds<F: FactBase>(
     rt: &impl Abort,
     alloc: Global,
     facts: &F,
-    fact: u32,
-    numbers: &[i64],
+    ones: &[Sample],
+    twos: &[Sample],
 ) -> Result<(), NoMemory> {
-    let wanted = wanted(alloc, fact, &[], &[])?;
-    let rows = facts.select(alloc, &wanted)?;
-    assert!(rt; numbers_of(alloc, rows.as_slice())?.as_slice() == numbers);
-    Ok(())
+    assert_finds(rt, alloc, facts, (1, &[], &[]), ones)?;
+    assert_finds(rt, alloc, facts, (2, &[], &[]), twos)
+}
+
+/// The change of the base answers and leaves what the case says.
+fn assert_changes<F: FactBase>(
+    rt: &impl Abort,
+    alloc: Global,
+    mut facts: F,
+    case: Case,
+) -> Result<(), NoMemory> {
+    let (change, fault, ones, twos) = case;
+    assert!(rt; changed(alloc, &mut facts, change).err() == fault);
+    assert_holds(rt, alloc, &facts, ones, twos)
 }
 
 #[test]
 fn writes_change_one_row_or_none(rt: HostRuntime) -> Result<(), Fail> {
     let alloc = rt.alloc();
-    for (change, fault, ones, twos) in CASES {
-        let mut facts: Facts = filled(alloc, &ROWS)?;
-        assert!(rt; changed(alloc, &mut facts, change).err() == fault);
-        assert_holds(&rt, alloc, &facts, 1, ones)?;
-        assert_holds(&rt, alloc, &facts, 2, twos)?;
+    for case in CASES {
+        let facts: Facts = filled(alloc, &ROWS)?;
+        assert_changes(&rt, alloc, facts, case)?;
     }
     Ok(())
 }
 
-// Each of the writes that come through changes a copy, and the base that was copied stays.
+// Each of the writes changes a copy, and the base that was copied stays.
 #[test]
 fn a_changed_copy_leaves_the_first(rt: HostRuntime) -> Result<(), Fail> {
     let alloc = rt.alloc();
     let facts: Facts = filled(alloc, &ROWS)?;
-    for (change, fault, ones, twos) in CASES {
-        let mut copy = facts.copy(alloc)?;
-        assert!(rt; changed(alloc, &mut copy, change).err() == fault);
-        assert_holds(&rt, alloc, &copy, 1, ones)?;
-        assert_holds(&rt, alloc, &copy, 2, twos)?;
+    for case in CASES {
+        assert_changes(&rt, alloc, facts.copy(alloc)?, case)?;
     }
-    assert_holds(&rt, alloc, &facts, 1, &[1, 2])?;
-    assert_holds(&rt, alloc, &facts, 2, &[3])?;
+    assert_holds(&rt, alloc, &facts, &[ONE, TWO], &[THREE])?;
     Ok(())
 }
 
@@ -174,8 +253,13 @@ fn a_changed_copy_leaves_the_first(rt: HostRuntime) -> Result<(), Fail> {
 fn a_base_begins_empty(rt: HostRuntime) -> Result<(), Fail> {
     let alloc = rt.alloc();
     let facts = Facts::empty(alloc);
-    assert_holds(&rt, alloc, &facts, 0, &[])?;
-    let copy = facts.copy(alloc)?;
-    assert_holds(&rt, alloc, &copy, 0, &[])?;
+    for query in QUERIES_OF_NONE {
+        assert_finds(&rt, alloc, &facts, query, &[])?;
+    }
+    for case in CASES_OF_NONE {
+        assert_changes(&rt, alloc, facts.copy(alloc)?, case)?;
+        assert_changes(&rt, alloc, Facts::empty(alloc), case)?;
+    }
+    assert_holds(&rt, alloc, &facts, &[], &[])?;
     Ok(())
 }
