@@ -32,6 +32,7 @@ impl<'a> Reader<'a> {
     pub fn take(&mut self, count: usize) -> Result<&'a [u8], Unread>
         ensures value { Reads (λ bytes. bytes.now) result self.new (bytes_at count self.old) }
         ensures length { IfOk result (λ bytes. length bytes.now ≡ count) }
+        ensures err { IfErr result (λ error. error ≡ Unread.Malformed) }
     {
         if self.rest.len() < count {
             return Err(Unread::Malformed);
@@ -42,7 +43,8 @@ impl<'a> Reader<'a> {
     }
 
     pub fn u8(&mut self) -> Result<u8, Unread>
-        ensures { Reads (λ number. number) result self.new (number_at w8 self.old) }
+        ensures value { Reads (λ number. number) result self.new (number_at w8 self.old) }
+        ensures err { IfErr result (λ error. error ≡ Unread.Malformed) }
     {
         let bytes = self.take(1)?;
         Ok(u8::from_be_bytes([bytes[0]]))
@@ -50,7 +52,8 @@ impl<'a> Reader<'a> {
 
     /// A truth in one byte: 0 or 1.
     pub fn flag(&mut self) -> Result<bool, Unread>
-        ensures { Reads (λ truth. truth) result self.new (flag_at self.old) }
+        ensures value { Reads (λ truth. truth) result self.new (flag_at self.old) }
+        ensures err { IfErr result (λ error. error ≡ Unread.Malformed) }
     {
         match self.u8()? {
             0 => Ok(false),
@@ -60,14 +63,16 @@ impl<'a> Reader<'a> {
     }
 
     pub fn u16(&mut self) -> Result<u16, Unread>
-        ensures { Reads (λ number. number) result self.new (number_at w16 self.old) }
+        ensures value { Reads (λ number. number) result self.new (number_at w16 self.old) }
+        ensures err { IfErr result (λ error. error ≡ Unread.Malformed) }
     {
         let bytes = self.take(2)?;
         Ok(u16::from_be_bytes([bytes[0], bytes[1]]))
     }
 
     pub fn u32(&mut self) -> Result<u32, Unread>
-        ensures { Reads (λ number. number) result self.new (number_at w32 self.old) }
+        ensures value { Reads (λ number. number) result self.new (number_at w32 self.old) }
+        ensures err { IfErr result (λ error. error ≡ Unread.Malformed) }
     {
         let bytes = self.take(4)?;
         Ok(u32::from_be_bytes([bytes[0], bytes[1], bytes[2], bytes[3]]))
@@ -75,7 +80,8 @@ impl<'a> Reader<'a> {
 
     /// A number in two's complement.
     pub fn i64(&mut self) -> Result<i64, Unread>
-        ensures { Reads (λ number. number) result self.new (made (cast_signed w64) (number_at w64) self.old) }
+        ensures value { Reads (λ number. number) result self.new (made (cast_signed w64) (number_at w64) self.old) }
+        ensures err { IfErr result (λ error. error ≡ Unread.Malformed) }
     {
         let bytes = self.take(8)?;
         Ok(i64::from_be_bytes([
@@ -84,7 +90,8 @@ impl<'a> Reader<'a> {
     }
 
     pub fn id(&mut self) -> Result<Id, Unread>
-        ensures { Reads (λ id. id) result self.new (bytes_at 32 self.old) }
+        ensures value { Reads (λ id. id) result self.new (bytes_at 32 self.old) }
+        ensures err { IfErr result (λ error. error ≡ Unread.Malformed) }
     {
         let bytes = self.take(32)?;
         let mut all = [0; 32];
@@ -94,7 +101,8 @@ impl<'a> Reader<'a> {
 
     /// A length in one byte, and that many bytes.
     pub fn counted_u8(&mut self) -> Result<&'a [u8], Unread>
-        ensures { Reads (λ bytes. bytes.now) result self.new (counted_at w8 self.old) }
+        ensures value { Reads (λ bytes. bytes.now) result self.new (counted_at w8 self.old) }
+        ensures err { IfErr result (λ error. error ≡ Unread.Malformed) }
     {
         let count = self.u8()?;
         self.take(count as usize)
@@ -102,7 +110,8 @@ impl<'a> Reader<'a> {
 
     /// A length in two bytes, and that many bytes.
     pub fn counted_u16(&mut self) -> Result<&'a [u8], Unread>
-        ensures { Reads (λ bytes. bytes.now) result self.new (counted_at w16 self.old) }
+        ensures value { Reads (λ bytes. bytes.now) result self.new (counted_at w16 self.old) }
+        ensures err { IfErr result (λ error. error ≡ Unread.Malformed) }
     {
         let count = self.u16()?;
         self.take(count as usize)
@@ -110,7 +119,8 @@ impl<'a> Reader<'a> {
 
     /// A length in four bytes, and that many bytes.
     pub fn counted_u32(&mut self) -> Result<&'a [u8], Unread>
-        ensures { Reads (λ bytes. bytes.now) result self.new (counted_at w32 self.old) }
+        ensures value { Reads (λ bytes. bytes.now) result self.new (counted_at w32 self.old) }
+        ensures err { IfErr result (λ error. error ≡ Unread.Malformed) }
     {
         let count = self.u32()?;
         self.take(count as usize)
