@@ -1,5 +1,6 @@
-ghost use Rattle.std.specs.Prelude.{◌≡◌, ◌↔◌, [], length, IsOk, IfOk, IfErr};
-ghost use Rattle.std.specs.Int.{w8, w16, w32, w64, cast_signed};
+ghost use Rattle.std.specs.Prelude.{◌≡◌, ◌↔◌, [], ◌++◌, length, IsOk, IfOk, IfErr};
+ghost use Rattle.std.specs.Int.{w8, w16, w32, w64, cast_signed, from_be_bytes, to_be_bytes};
+ghost use Rattle.base_bytes.specs.Pieces.{counted};
 ghost use Rattle.base_bytes.specs.Reading.{Reads, bytes_at, counted_at, flag_at, made, number_at};
 
 use crate::{Id, Unread};
@@ -72,10 +73,11 @@ impl<'a> Reader<'a> {
 
     pub fn u32(&mut self) -> Result<u32, Unread>
         ensures value { Reads (λ number. number) result self.new (number_at w32 self.old) }
+        ensures form { IfOk result (λ number. self.old ≡ to_be_bytes w32 number ++ self.new) }
         ensures err { IfErr result (λ error. error ≡ Unread.Malformed) }
     {
         let bytes = self.take(4)?;
-        Ok(u32::from_be_bytes([bytes[0], bytes[1], bytes[2], bytes[3]]))
+        Ok(number_of(bytes))
     }
 
     /// A number in two's complement.
@@ -120,6 +122,7 @@ impl<'a> Reader<'a> {
     /// A length in four bytes, and that many bytes.
     pub fn counted_u32(&mut self) -> Result<&'a [u8], Unread>
         ensures value { Reads (λ bytes. bytes.now) result self.new (counted_at w32 self.old) }
+        ensures form { IfOk result (λ bytes. self.old ≡ counted w32 bytes.now ++ self.new) }
         ensures err { IfErr result (λ error. error ≡ Unread.Malformed) }
     {
         let count = self.u32()?;
@@ -137,4 +140,13 @@ impl<'a> Reader<'a> {
             Err(Unread::Malformed)
         }
     }
+}
+
+// A number's bytes are bytes, so they are told again from it.
+fn number_of(bytes: &[u8]) -> u32
+    requires { length bytes.now ≡ 4 }
+    ensures value { result ≡ from_be_bytes w32 bytes.now }
+    ensures back { to_be_bytes w32 result ≡ bytes.now }
+{
+    u32::from_be_bytes([bytes[0], bytes[1], bytes[2], bytes[3]])
 }

@@ -97,3 +97,8 @@ pub record IsWire (command : Command) (told : List ℕ) : Type 0 where
 -- The command is in the wire form.
 abbrev pub IsFormed : Command → Type 0
 IsFormed command = IsWire command (wire command)
+
+-- At the front of bytes stands a command with its length in four bytes before it, and behind it the rest.
+pub record IsCountedFront (command : Command) (rest bytes : List ℕ) : Type 0 where
+  pub form : IsFormed command
+  pub front : bytes ≡ counted w32 (wire command) ++ rest
