@@ -1,6 +1,6 @@
 -- A form with a reading is unambiguous, and a reading to the end answers as the form asks.
 use Rattle.std.proofs.Common.{◌≡◌, ◌==◌, ℕ, Bool, true, false, List, [], ◌++◌, length, Option, Some, None, Result, Ok, Err, refl, sym, ap, ◌∙◌}
-use Rattle.std.specs.Prelude.{IfOk, IfSome, IfNone}
+use Rattle.std.specs.Prelude.{IfErr, IfOk, IfSome, IfNone}
 use Rattle.std.specs.Option.{option_and_then}
 use Rattle.std.proofs.lemmas.Bool.{eqb-true}
 use Rattle.std.proofs.lemmas.List.{append-nil, nil_from_length}
@@ -46,6 +46,13 @@ module _ {A : Type 0} (answer : Result A Unread) (found : Option (A × List ℕ)
       none_by (Ok x) is = tt
       none_by (Err unread.Malformed) is = λ x in_form. is x (form x in_form)
       none_by (Err unread.NoMemory) is = tt
+
+-- where a call found nothing at the front, nothing of the form stands there
+pub none_at_front : {A : Type 0} (answer : Result A Unread) (rest : List ℕ) (found : Option (A × List ℕ)) → Reads (λ x. x) answer rest found → (IsFront : A → List ℕ → Type 0) → ((x : A) (left : List ℕ) → IsFront x left → found ≡ Some (x, left))
+    → IfErr answer (λ error. error ≡ unread.Malformed → (x : A) (left : List ℕ) → IsFront x left → ⊥)
+none_at_front (Ok x) rest found is IsFront form = tt
+none_at_front (Err unread.Malformed) rest found is IsFront form = λ same x left in_form. let some = form x left in_form in absurd (cc)
+none_at_front (Err unread.NoMemory) rest found is IsFront form = λ same. absurd (cc)
 
 not_ended : {A : Type 0} (found : Option (A × List ℕ)) → ((x : A) → found ≡ Some (x, []) → ⊥) → option_and_then ended found ≡ None
 not_ended None refused = refl

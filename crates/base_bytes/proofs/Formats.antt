@@ -1,5 +1,6 @@
 -- A form of bytes and a reading that agree, and the ways to make such pairs from smaller ones.
-use Rattle.std.proofs.Common.{◌≡◌, ℕ, zero, suc, nat_lt, nat_le, replicate, map, ◌%◌, ◌==◌, ◌^◌, ◌<◌, ◌≤◌, Bool, true, false, cond, ltb, List, [], ◌∷◌, ◌++◌, length, get_or, take, drop, Option, Some, None, option_map, refl, sym, ap, subst, ◌∙◌, append_assoc, arith, inl, inr}
+use Rattle.std.proofs.Common.{◌≡◌, ℕ, zero, suc, nat_lt, nat_le, replicate, map, ◌%◌, ◌==◌, ◌^◌, ◌<◌, ◌≤◌, Bool, true, false, cond, ltb, List, [], ◌∷◌, ◌++◌, length, get_or, take, drop, Option, Some, None, option_map, Result, Ok, Err, refl, sym, ap, subst, ◌∙◌, append_assoc, arith, inl, inr}
+use Rattle.std.specs.Prelude.{IfOk}
 use Rattle.std.specs.Int.{Width, w8, w16, w32, w64, byte_len, from_be_bytes, to_be_bytes}
 use Rattle.std.specs.List.{AllByRecursion, concat}
 use Rattle.std.specs.Option.{option_and_then}
@@ -8,7 +9,8 @@ use Rattle.std.proofs.lemmas.List.{append-nil, nil_from_length, take_at, drop_at
 use Rattle.std.proofs.lemmas.Nat.{be_bytes_2, be_bytes_4, be_bytes_8, from_be_bytes-to_be_bytes_2, from_be_bytes-to_be_bytes_4, from_be_bytes-to_be_bytes_8}
 use Rattle.std.proofs.lemmas.Option.{same_Some}
 use Rattle.base_bytes.specs.Pieces.{counted, flag, listed}
-use Rattle.base_bytes.specs.Reading.{flag_at, listed_at, in_order, behind, ended, inside, Reading, bytes_at, counted_at, followed, made, number_at, pair, passing}
+use Rattle.base_bytes.specs.Reading.{flag_at, listed_at, in_order, behind, ended, inside, Reading, Reads, bytes_at, counted_at, followed, made, number_at, pair, passing}
+use Rattle.base_bytes.specs.declared.unread.Unread.{Unread}
 
 -- each number is a byte
 abbrev pub AreBytes : List ℕ → Type 0
@@ -58,15 +60,18 @@ if_not_then false x z is go = go refl is
 
 -- ---- pieces
 
+bytes_taken : (count : ℕ) (bytes : List ℕ) (p : List ℕ × List ℕ) → bytes_at count bytes ≡ Some p → (bytes ≡ p.0 ++ p.1) × (length p.0 ≡ count)
+bytes_taken count bytes p is = if_not_then (ltb (length bytes) count) (Some (take count bytes, drop count bytes)) p is (λ no found.
+    let enough : count ≤ length bytes = ltb-false _ _ no in
+    let size : length (take count bytes) ≡ count = omega (arith, length-take count bytes) in
+    subst (λ (q : List ℕ × List ℕ). (bytes ≡ q.0 ++ q.1) × (length q.0 ≡ count)) (same_Some (take count bytes, drop count bytes) p found) (sym (take-append-drop count bytes), size))
+
 pub bytes_format : (count : ℕ) → IsFormat (λ bytes. length bytes ≡ count) (λ bytes. bytes) (bytes_at count)
 bytes_format count = record {
   again = λ bytes rest long.
       let enough : ltb (length (bytes ++ rest)) count ≡ false = le-ltb _ _ (omega (arith, long, length-append bytes rest)) in
       rw (enough, take_at bytes rest count long, drop_at bytes rest count long) refl;
-  takes = λ bytes p are is. if_not_then (ltb (length bytes) count) (Some (take count bytes, drop count bytes)) p is (λ no found.
-      let enough : count ≤ length bytes = ltb-false _ _ no in
-      let size : length (take count bytes) ≡ count = omega (arith, length-take count bytes) in
-      subst (λ (q : List ℕ × List ℕ). (bytes ≡ q.0 ++ q.1) × (length q.0 ≡ count)) (same_Some (take count bytes, drop count bytes) p found) (sym (take-append-drop count bytes), size));
+  takes = λ bytes p are is. bytes_taken count bytes p is;
 }
 
 abbrev pub some_of : (A : Type 0) → A → List ℕ → Option (A × List ℕ)
@@ -177,6 +182,16 @@ wide_64 = record {
   again = λ n lt. from_be_bytes-to_be_bytes_8 n lt;
   below = λ bytes are. omega (arith, are 0, are 1, are 2, are 3, are 4, are 5, are 6, are 7);
 }
+
+-- the same of a reader's calls, which know of the piece alone that it is bytes
+pub number_front : (w : Width) (bytes told rest : List ℕ) (count n : ℕ) → to_be_bytes w n ≡ told → bytes_at count bytes ≡ Some (told, rest) → bytes ≡ to_be_bytes w n ++ rest
+number_front w bytes told rest count n back is = (bytes_taken count bytes (told, rest) is).0 ∙ ap (λ front. front ++ rest) (sym back)
+
+pub counted_front : {X : Type 0} (w : Width) (view : X → List ℕ) (answer : Result X Unread) (bytes left rest : List ℕ) (count : ℕ) → bytes ≡ to_be_bytes w count ++ left → Reads view answer rest (bytes_at count left) → IfOk answer (λ x. bytes ≡ counted w (view x) ++ rest)
+counted_front w view (Ok x) bytes left rest count is told =
+    let t = bytes_taken count left (view x, rest) told in
+    is ∙ ap (λ behind. to_be_bytes w count ++ behind) t.0 ∙ sym (append_assoc (to_be_bytes w count) (view x) rest) ∙ ap (λ n. (to_be_bytes w n ++ view x) ++ rest) (sym t.1)
+counted_front w view (Err error) bytes left rest count is told = tt
 
 module _ {w : Width} {limit : ℕ} (wide : IsWide w limit) where
   pub number_format : IsFormat (λ n. n < limit) (to_be_bytes w) (number_at w)

@@ -1,5 +1,6 @@
-ghost use Rattle.std.specs.Prelude.{◌≡◌, ◌↔◌, [], length, IsOk, IfOk, IfErr};
-ghost use Rattle.std.specs.Int.{w8, w16, w32, w64, cast_signed};
+ghost use Rattle.std.specs.Prelude.{◌≡◌, ◌↔◌, [], ◌++◌, length, IsOk, IfOk, IfErr};
+ghost use Rattle.std.specs.Int.{w8, w16, w32, w64, cast_signed, from_be_bytes, to_be_bytes};
+ghost use Rattle.base_bytes.specs.Pieces.{counted};
 ghost use Rattle.base_bytes.specs.Reading.{Reads, bytes_at, counted_at, flag_at, made, number_at};
 
 use crate::{Id, Unread};
@@ -32,6 +33,7 @@ impl<'a> Reader<'a> {
     pub fn take(&mut self, count: usize) -> Result<&'a [u8], Unread>
         ensures value { Reads (λ bytes. bytes.now) result self.new (bytes_at count self.old) }
         ensures length { IfOk result (λ bytes. length bytes.now ≡ count) }
+        ensures err { IfErr result (λ error. error ≡ Unread.Malformed) }
     {
         if self.rest.len() < count {
             return Err(Unread::Malformed);
@@ -42,7 +44,8 @@ impl<'a> Reader<'a> {
     }
 
     pub fn u8(&mut self) -> Result<u8, Unread>
-        ensures { Reads (λ number. number) result self.new (number_at w8 self.old) }
+        ensures value { Reads (λ number. number) result self.new (number_at w8 self.old) }
+        ensures err { IfErr result (λ error. error ≡ Unread.Malformed) }
     {
         let bytes = self.take(1)?;
         Ok(u8::from_be_bytes([bytes[0]]))
@@ -50,7 +53,8 @@ impl<'a> Reader<'a> {
 
     /// A truth in one byte: 0 or 1.
     pub fn flag(&mut self) -> Result<bool, Unread>
-        ensures { Reads (λ truth. truth) result self.new (flag_at self.old) }
+        ensures value { Reads (λ truth. truth) result self.new (flag_at self.old) }
+        ensures err { IfErr result (λ error. error ≡ Unread.Malformed) }
     {
         match self.u8()? {
             0 => Ok(false),
@@ -60,22 +64,26 @@ impl<'a> Reader<'a> {
     }
 
     pub fn u16(&mut self) -> Result<u16, Unread>
-        ensures { Reads (λ number. number) result self.new (number_at w16 self.old) }
+        ensures value { Reads (λ number. number) result self.new (number_at w16 self.old) }
+        ensures err { IfErr result (λ error. error ≡ Unread.Malformed) }
     {
         let bytes = self.take(2)?;
         Ok(u16::from_be_bytes([bytes[0], bytes[1]]))
     }
 
     pub fn u32(&mut self) -> Result<u32, Unread>
-        ensures { Reads (λ number. number) result self.new (number_at w32 self.old) }
+        ensures value { Reads (λ number. number) result self.new (number_at w32 self.old) }
+        ensures form { IfOk result (λ number. self.old ≡ to_be_bytes w32 number ++ self.new) }
+        ensures err { IfErr result (λ error. error ≡ Unread.Malformed) }
     {
         let bytes = self.take(4)?;
-        Ok(u32::from_be_bytes([bytes[0], bytes[1], bytes[2], bytes[3]]))
+        Ok(number_of(bytes))
     }
 
     /// A number in two's complement.
     pub fn i64(&mut self) -> Result<i64, Unread>
-        ensures { Reads (λ number. number) result self.new (made (cast_signed w64) (number_at w64) self.old) }
+        ensures value { Reads (λ number. number) result self.new (made (cast_signed w64) (number_at w64) self.old) }
+        ensures err { IfErr result (λ error. error ≡ Unread.Malformed) }
     {
         let bytes = self.take(8)?;
         Ok(i64::from_be_bytes([
@@ -84,7 +92,8 @@ impl<'a> Reader<'a> {
     }
 
     pub fn id(&mut self) -> Result<Id, Unread>
-        ensures { Reads (λ id. id) result self.new (bytes_at 32 self.old) }
+        ensures value { Reads (λ id. id) result self.new (bytes_at 32 self.old) }
+        ensures err { IfErr result (λ error. error ≡ Unread.Malformed) }
     {
         let bytes = self.take(32)?;
         let mut all = [0; 32];
@@ -94,7 +103,8 @@ impl<'a> Reader<'a> {
 
     /// A length in one byte, and that many bytes.
     pub fn counted_u8(&mut self) -> Result<&'a [u8], Unread>
-        ensures { Reads (λ bytes. bytes.now) result self.new (counted_at w8 self.old) }
+        ensures value { Reads (λ bytes. bytes.now) result self.new (counted_at w8 self.old) }
+        ensures err { IfErr result (λ error. error ≡ Unread.Malformed) }
     {
         let count = self.u8()?;
         self.take(count as usize)
@@ -102,7 +112,8 @@ impl<'a> Reader<'a> {
 
     /// A length in two bytes, and that many bytes.
     pub fn counted_u16(&mut self) -> Result<&'a [u8], Unread>
-        ensures { Reads (λ bytes. bytes.now) result self.new (counted_at w16 self.old) }
+        ensures value { Reads (λ bytes. bytes.now) result self.new (counted_at w16 self.old) }
+        ensures err { IfErr result (λ error. error ≡ Unread.Malformed) }
     {
         let count = self.u16()?;
         self.take(count as usize)
@@ -110,7 +121,9 @@ impl<'a> Reader<'a> {
 
     /// A length in four bytes, and that many bytes.
     pub fn counted_u32(&mut self) -> Result<&'a [u8], Unread>
-        ensures { Reads (λ bytes. bytes.now) result self.new (counted_at w32 self.old) }
+        ensures value { Reads (λ bytes. bytes.now) result self.new (counted_at w32 self.old) }
+        ensures form { IfOk result (λ bytes. self.old ≡ counted w32 bytes.now ++ self.new) }
+        ensures err { IfErr result (λ error. error ≡ Unread.Malformed) }
     {
         let count = self.u32()?;
         self.take(count as usize)
@@ -127,4 +140,13 @@ impl<'a> Reader<'a> {
             Err(Unread::Malformed)
         }
     }
+}
+
+// A number's bytes are bytes, so they are told again from it.
+fn number_of(bytes: &[u8]) -> u32
+    requires { length bytes.now ≡ 4 }
+    ensures value { result ≡ from_be_bytes w32 bytes.now }
+    ensures back { to_be_bytes w32 result ≡ bytes.now }
+{
+    u32::from_be_bytes([bytes[0], bytes[1], bytes[2], bytes[3]])
 }

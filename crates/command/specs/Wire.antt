@@ -87,7 +87,7 @@ HasTag (Basic priority parent author name payload tag) = length tag ≤ 64
 HasTag (Finalize parent author name payload tag) = length tag ≤ 64
 HasTag (Merge left right) = ⊤
 
--- The relation between a command and its bytes. It also says what the types of the parts say, for a reader of bytes who has no command yet.
+-- The relation between a command and its bytes. It also says the lengths that the types of the parts keep, and that the priority is below 2^32, for a reader of bytes who has no command yet. That each number of a list is a byte, the types alone say.
 pub record IsWire (command : Command) (told : List ℕ) : Type 0 where
   pub in_form : IsInForm command
   pub front : HasFront command
@@ -97,3 +97,8 @@ pub record IsWire (command : Command) (told : List ℕ) : Type 0 where
 -- The command is in the wire form.
 abbrev pub IsFormed : Command → Type 0
 IsFormed command = IsWire command (wire command)
+
+-- At the front of bytes stands a command with its length in four bytes before it, and behind it the rest.
+pub record IsCountedFront (command : Command) (rest bytes : List ℕ) : Type 0 where
+  pub form : IsFormed command
+  pub front : bytes ≡ counted w32 (wire command) ++ rest

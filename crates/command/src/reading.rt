@@ -1,7 +1,7 @@
-ghost use Rattle.std.specs.Prelude.{◌≡◌, IfNone, IfOk, IfSome};
+ghost use Rattle.std.specs.Prelude.{◌≡◌, ℕ, List, IfErr, IfNone, IfOk, IfSome};
 ghost use Rattle.base_bytes.specs.Reading.{Reads, ReadsAll};
 ghost use Rattle.command.specs.Reading as reading;
-ghost use Rattle.command.specs.Wire.{IsWire};
+ghost use Rattle.command.specs.Wire.{IsCountedFront, IsWire};
 ghost use Rattle.command.specs.declared.command.Command.{Command};
 
 use crate::command::Command;
@@ -18,16 +18,20 @@ pub fn from_bytes(alloc: Global, bytes: &[u8]) -> Result<Option<Command>, NoMemo
     or_none(read_whole(alloc, bytes))
 }
 
-/// The next command, which has its length in four bytes before it.
+/// The next command, which has its length in four bytes before it. After a refusal or want of memory the reader's place
+/// is left open.
 pub fn read_counted(alloc: Global, reader: &mut Reader) -> Result<Command, Unread>
-    ensures { Reads (λ command. command) result reader.new (reading.counted_command_at reader.old) }
+    ensures read { Reads (λ command. command) result reader.new (reading.counted_command_at reader.old) }
+    ensures found { IfOk result (λ command. IsCountedFront command reader.new reader.old) }
+    ensures none { IfErr result (λ error. error ≡ Unread.Malformed → (command : Command) (rest : List ℕ) → IsCountedFront command rest reader.old → ⊥) }
 {
     let bytes = reader.counted_u32()?;
     read_whole(alloc, bytes)
 }
 
 fn read_whole(alloc: Global, bytes: &[u8]) -> Result<Command, Unread>
-    ensures { ReadsAll result (reading.command_at bytes.now) }
+    ensures read { ReadsAll result (reading.command_at bytes.now) }
+    ensures form { IfOk result (λ command. IsWire command bytes.now) }
 {
     let mut reader = Reader::new(bytes);
     let command = read_command(alloc, &mut reader)?;

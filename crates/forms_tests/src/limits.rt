@@ -69,11 +69,14 @@ fn requests_have_limits(rt: HostRuntime) -> Result<(), Fail> {
     Ok(())
 }
 
-// A response with no ids, a place and a mark of more in hex, and so many merges.
-fn response(alloc: Global, from: &str, more: &str, merges: u8) -> Result<Vec<u8>, Fail> {
+// A response with so many ids, a place and a mark of more in hex, and so many merges.
+fn response(alloc: Global, ids: u8, from: &str, more: &str, merges: u8) -> Result<Vec<u8>, Fail> {
     let mut message = bytes_of(alloc, "0102")?;
     message.extend_from_slice(&ID)?;
-    message.push(0)?;
+    message.push(ids)?;
+    for _ in 0..ids {
+        message.extend_from_slice(&ID)?;
+    }
     message.extend_from_slice(&bytes_of(alloc, from)?)?;
     message.extend_from_slice(&bytes_of(alloc, more)?)?;
     message.push(merges)?;
@@ -86,24 +89,49 @@ fn response(alloc: Global, from: &str, more: &str, merges: u8) -> Result<Vec<u8>
 #[test]
 fn responses_have_limits(rt: HostRuntime) -> Result<(), Fail> {
     let alloc = rt.alloc();
-    for (from, more, merges, taken) in [
-        ("00010000", "00", 0, true),
-        ("00010000", "00", 1, false),
-        ("0000ffff", "01", 1, true),
-        ("00000000", "01", 0, false),
-        ("00000000", "02", 1, false),
-        ("00000000", "00", 64, true),
-        ("00000000", "00", 65, false),
+    for (ids, from, more, merges, taken) in [
+        (0, "00010000", "00", 0, true),
+        (0, "00010000", "00", 1, false),
+        (0, "00010001", "00", 0, false),
+        (0, "0000ffff", "01", 1, true),
+        (0, "00000000", "01", 0, false),
+        (0, "00000000", "02", 1, false),
+        (0, "00000000", "00", 64, true),
+        (0, "00000000", "00", 65, false),
+        (32, "00000000", "00", 1, true),
+        (33, "00000000", "00", 1, false),
     ] {
-        let message = response(alloc, from, more, merges)?;
+        let message = response(alloc, ids, from, more, merges)?;
         assert_taken(&rt, alloc, Form::Response, &message, taken)?;
         assert_taken(&rt, alloc, Form::Request, &message, false)?;
     }
     Ok(())
 }
 
-// A finalize with a name in hex behind its length, so many bytes of payload, and no tag.
-fn finalize(alloc: Global, name: &str, payload: u16) -> Result<Vec<u8>, Fail> {
+#[test]
+fn a_counted_command_ends_with_its_length(rt: HostRuntime) -> Result<(), Fail> {
+    let alloc = rt.alloc();
+    for (length, behind, taken) in [
+        ("00000042", "", true),
+        ("00000043", "00", false),
+        ("00000042", "00", false),
+        ("00000041", "", false),
+    ] {
+        let mut message = bytes_of(alloc, "0102")?;
+        message.extend_from_slice(&ID)?;
+        message.extend_from_slice(&bytes_of(alloc, "00 00000000 00 01")?)?;
+        message.extend_from_slice(&bytes_of(alloc, length)?)?;
+        message.extend_from_slice(&bytes_of(alloc, "0103")?)?;
+        message.extend_from_slice(&[1; 32])?;
+        message.extend_from_slice(&[2; 32])?;
+        message.extend_from_slice(&bytes_of(alloc, behind)?)?;
+        assert_taken(&rt, alloc, Form::Response, &message, taken)?;
+    }
+    Ok(())
+}
+
+// A finalize with a name in hex behind its length, so many bytes of payload, and so many of a tag.
+fn finalize(alloc: Global, name: &str, payload: u16, tag: u8) -> Result<Vec<u8>, Fail> {
     let mut message = bytes_of(alloc, "0102")?;
     message.extend_from_slice(&ID)?;
     message.extend_from_slice(&ID)?;
@@ -112,7 +140,10 @@ fn finalize(alloc: Global, name: &str, payload: u16) -> Result<Vec<u8>, Fail> {
     for _ in 0..payload {
         message.push(255)?;
     }
-    message.push(0)?;
+    message.push(tag)?;
+    for _ in 0..tag {
+        message.push(255)?;
+    }
     Ok(message)
 }
 
@@ -125,16 +156,18 @@ const TOO_LONG: &str =
 #[test]
 fn commands_have_limits(rt: HostRuntime) -> Result<(), Fail> {
     let alloc = rt.alloc();
-    for (name, payload, taken) in [
-        (LONGEST, 4096, true),
-        ("0001 61", 4097, false),
-        (TOO_LONG, 0, false),
-        ("0000", 0, false),
-        ("0002 3161", 0, false),
-        ("0002 c3a9", 0, false),
-        ("0002 615f", 0, true),
+    for (name, payload, tag, taken) in [
+        (LONGEST, 4096, 64, true),
+        ("0001 61", 4097, 0, false),
+        ("0001 61", 0, 64, true),
+        ("0001 61", 0, 65, false),
+        (TOO_LONG, 0, 0, false),
+        ("0000", 0, 0, false),
+        ("0002 3161", 0, 0, false),
+        ("0002 c3a9", 0, 0, false),
+        ("0002 615f", 0, 0, true),
     ] {
-        let message = finalize(alloc, name, payload)?;
+        let message = finalize(alloc, name, payload, tag)?;
         assert_taken(&rt, alloc, Form::Command, &message, taken)?;
     }
     Ok(())

@@ -1,10 +1,10 @@
 ghost use Rattle.std.specs.Prelude.{◌≡◌, ◌<◌};
 
 use base_bytes::{
-    Arg, Bytes, Id, Ids, NoMemory, Shape, Shapes, Steps, Tag, Text, Ty, Value, Values,
+    Arg, Bytes, Id, Ids, NoMemory, Reader, Shape, Shapes, Steps, Tag, Text, Ty, Value, Values,
     are_same_values, copy_values,
 };
-use command::{Command, Commands};
+use command::{Command, Commands, Places, read_counted};
 use sqlite_items::{Boxed, Items};
 use std::alloc::Global;
 use std::marker::Brand;
@@ -46,17 +46,33 @@ fn small_lists_grow(rt: HostRuntime) -> Result<(), Fail> {
     Ok(())
 }
 
+fn merge(left: u8, right: u8) -> Command {
+    Command::Merge {
+        left: Id::new([left; 32]),
+        right: Id::new([right; 32]),
+    }
+}
+
+fn is_merge(command: &Command, low: u8, high: u8) -> bool {
+    match command {
+        Command::Merge { left, right } => {
+            *left == Id::new([low; 32]) && *right == Id::new([high; 32])
+        }
+        _ => false,
+    }
+}
+
+fn are_two_merges(commands: &Commands) -> bool {
+    match commands.as_slice() {
+        [first, second] => is_merge(first, 1, 2) && is_merge(second, 3, 4),
+        _ => false,
+    }
+}
+
 fn grown_commands(alloc: Global) -> Result<Commands, NoMemory> {
-    let merge = Command::Merge {
-        left: Id::new([1; 32]),
-        right: Id::new([2; 32]),
-    };
-    let mut commands = Commands::from_slice(alloc, &[merge])?;
-    commands.push(Command::Merge {
-        left: Id::new([3; 32]),
-        right: Id::new([4; 32]),
-    })?;
-    commands.copy(alloc)
+    let mut commands = Commands::from_slice(alloc, &[merge(1, 2)])?;
+    commands.push(merge(3, 4))?;
+    Ok(commands)
 }
 
 #[test]
@@ -64,13 +80,50 @@ fn lists_of_commands_grow(rt: HostRuntime) -> Result<(), Fail> {
     let alloc = rt.alloc();
     let commands = grown_commands(alloc)?;
     assert!(rt; commands.len() == 2);
-    assert!(rt;
-        matches!(
-            commands.as_slice(),
-            [Command::Merge { .. }, Command::Merge { .. }]
-        )
-    );
+    assert!(rt; are_two_merges(&commands));
+    assert!(rt; are_two_merges(&commands.copy(alloc)?));
+    assert!(rt; are_two_merges(&Commands::from_slice(alloc, commands.as_slice())?));
     assert!(rt; Commands::new(alloc).as_slice().is_empty());
+    Ok(())
+}
+
+fn grown_places(alloc: Global) -> Result<Places, NoMemory> {
+    let mut places = Places::from_slice(alloc, &[7, 5])?;
+    places.push(9)?;
+    Ok(places)
+}
+
+#[test]
+fn lists_of_places_grow(rt: HostRuntime) -> Result<(), Fail> {
+    let alloc = rt.alloc();
+    let mut places = grown_places(alloc)?;
+    assert!(rt; places.as_slice() == [7, 5, 9].as_slice());
+    assert!(rt; places.len() == 3);
+    assert!(rt; places.copy(alloc)?.as_slice() == [7, 5, 9].as_slice());
+    places.reverse();
+    assert!(rt; places.as_slice() == [9, 5, 7].as_slice());
+    assert!(rt; Places::new(alloc).as_slice().is_empty());
+    Ok(())
+}
+
+// A merge behind its length, and one byte behind it.
+fn counted_merge(alloc: Global) -> Result<Bytes, NoMemory> {
+    let mut bytes = Bytes::from_slice(alloc, &[0, 0, 0, 66, 1, 3])?;
+    bytes.extend(&[1; 32])?;
+    bytes.extend(&[2; 32])?;
+    bytes.push(9)?;
+    Ok(bytes)
+}
+
+#[test]
+fn a_counted_command_is_read(rt: HostRuntime) -> Result<(), Fail> {
+    let alloc = rt.alloc();
+    let bytes = counted_merge(alloc)?;
+    let mut reader = Reader::new(bytes.as_slice());
+    let command = read_counted(alloc, &mut reader);
+    assert!(rt; command.is_ok_and(|it| is_merge(&it, 1, 2)));
+    assert!(rt; reader.u8() == Ok(9));
+    assert!(rt; reader.end() == Ok(()));
     Ok(())
 }
 
@@ -108,6 +161,16 @@ fn written_argument(alloc: Global) -> Result<Arg, NoMemory> {
     Ok(Arg::Fields(Text::from_slice(alloc, "Put")?, fields))
 }
 
+fn is_written(argument: &Arg) -> bool {
+    match argument {
+        Arg::Fields(name, fields) => match fields.as_slice() {
+            [(field, Arg::Int(3))] => name.as_str() == "Put" && field.as_str() == "n",
+            _ => false,
+        },
+        _ => false,
+    }
+}
+
 #[test]
 fn copies_of_values_are_the_same(rt: HostRuntime) -> Result<(), Fail> {
     let alloc = rt.alloc();
@@ -127,7 +190,8 @@ fn copies_of_types_and_arguments(rt: HostRuntime) -> Result<(), Fail> {
     assert!(rt; ty.is_same(&ty.copy(alloc)?));
     assert!(rt; !ty.is_same(&Ty::Struct(4)));
     let argument = written_argument(alloc)?;
-    assert!(rt; matches!(argument.copy(alloc)?, Arg::Fields(_, _)));
+    assert!(rt; is_written(&argument));
+    assert!(rt; is_written(&argument.copy(alloc)?));
     Ok(())
 }
 

@@ -6,12 +6,10 @@ use Rattle.std.proofs.lemmas.Bool.{false≢true, leb-true, le-leb, lt-ltb, ltb-t
 use Rattle.std.proofs.lemmas.List.Elements.{All-from_recursion, recursion_from_All}
 use Rattle.base_bytes.proofs.Bools.{and_then}
 use Rattle.base_bytes.specs.Pieces.{flag, listed}
-use Rattle.base_bytes.proofs.Formats.{IsFormat, behind_format, bytes_format, flag_format, inside_format, listed_format, made_format, number_format, pair_format, passing_format, told_format, wide_8, wide_32}
-use Rattle.command.specs.Reading.{counted_command_at}
-use Rattle.command.specs.Wire.{IsWire, wire}
+use Rattle.base_bytes.proofs.Formats.{IsFormat, behind_format, bytes_format, flag_format, listed_format, made_format, number_format, pair_format, passing_format, told_format, wide_8, wide_32}
+use Rattle.command.specs.Wire.{IsFormed}
 use Rattle.command.specs.declared.command.Command.{Command}
-use Rattle.command.proofs.CommandFormats.{command_format}
-use Rattle.command.proofs.WireSizes.{wire_within}
+use Rattle.command.proofs.WireLaws.{counted_command_format}
 use Rattle.sync_codec.specs.Messages.{HaveIds, IsRequestInForm, IsResponseInForm, counted_command, front, request_bytes, response_bytes}
 use Rattle.sync_codec.specs.Reading.{Front, front_at, have_place, request_at, request_of, response_at, response_of}
 use Rattle.sync_codec.specs.declared.request.Request.{Request}
@@ -47,22 +45,14 @@ request_format = behind_format 1 (omega arith) (behind_format 1 (omega arith)
 
 -- ---- responses
 
-abbrev IsWhole : Command → Type 0
-IsWhole command = IsWire command (wire command)
-
-counted_command_format : IsFormat IsWhole counted_command counted_command_at
-counted_command_format = told_format (inside_format command_format wide_32) IsWhole counted_command
-    (λ command is. ((is.in_form, is.front, is.tag), omega (arith, wire_within command (wire command) is)))
-    (λ command is are. record { in_form = is.0.0; front = is.0.1; tag = is.0.2; spelled = refl }) (λ command. refl)
-
 abbrev Parts : Type 0
 Parts = Front × (Bool × List Command)
 
 abbrev AreParts : Parts → Type 0
-AreParts p = (IsFront p.0 × (Unit {0} × ((length p.1.1 ≤ 64) × AllByRecursion IsWhole p.1.1))) × (have_place p.0.1.1 p.1.0 (length p.1.1) ≡ true)
+AreParts p = (IsFront p.0 × (Unit {0} × ((length p.1.1 ≤ 64) × AllByRecursion IsFormed p.1.1))) × (have_place p.0.1.1 p.1.0 (length p.1.1) ≡ true)
 
 abbrev pub IsResponseForm : Response → Type 0
-IsResponseForm response = IsResponseInForm response × HaveIds response.graph response.sample × All IsWhole response.commands
+IsResponseForm response = IsResponseInForm response × HaveIds response.graph response.sample × All IsFormed response.commands
 
 abbrev of_response : Response → Parts
 of_response response = ((response.graph, (response.sample, response.from)), (response.more, response.commands))
@@ -80,7 +70,7 @@ response_back response is = (
   of_response response,
   refl,
   (
-    ((is.1, is.0.few_ids, omega (arith, is.0.near)), (tt, (is.0.few_commands, recursion_from_All IsWhole response.commands is.2))),
+    ((is.1, is.0.few_ids, omega (arith, is.0.near)), (tt, (is.0.few_commands, recursion_from_All IsFormed response.commands is.2))),
     place_is response.from response.more (length response.commands) is.0.near is.0.some,
   ),
 )
@@ -88,7 +78,7 @@ response_back response is = (
 response_forth : (p : Parts) → AreParts p → IsResponseForm (response_of p)
 response_forth p is =
     let place = place_near p.0.1.1 p.1.0 (length p.1.1) is.1 in
-    let whole : All IsWhole p.1.1 = All-from_recursion IsWhole p.1.1 is.0.1.1.1 in
+    let whole : All IsFormed p.1.1 = All-from_recursion IsFormed p.1.1 is.0.1.1.1 in
     (record { few_ids = is.0.0.1; few_commands = is.0.1.1.0; near = place.0; some = place.1; in_form = λ k d lt. (whole k d lt).in_form }, is.0.0.0, whole)
 
 pub response_format : IsFormat IsResponseForm response_bytes response_at

@@ -41,7 +41,7 @@ pub record HaveIds (graph : List ℕ) (sample : List (List ℕ)) : Type 0 where
   pub graph_size : length graph ≡ 32
   pub sample_sizes : All (λ id. length id ≡ 32) sample
 
--- The relation between a request and its bytes. It also says what the types of the parts say, for a reader of bytes who has no request yet.
+-- The relation between a request and its bytes. It also says the lengths that the types of the parts keep, for a reader of bytes who has no request yet. That each number of a list is a byte, the types alone say.
 pub record IsRequest (request : Request) (told : List ℕ) : Type 0 where
   pub in_form : IsRequestInForm request
   pub ids : HaveIds request.graph request.sample

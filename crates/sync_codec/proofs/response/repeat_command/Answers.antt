@@ -9,9 +9,9 @@ pub returns-in_err-read_counted : goal.returns-in_err-read_counted
 returns-in_err-read_counted c =
     let p = err_from_is_err_and c.from_residual.result c.from_residual.ensures.1 in
     let whole = in_order (replicate c.args.count counted_command_at) c.args.reader.now in
-    rw (p.1, p.2) (refused_repeated counted_command_at c.args.count c.loop.counter c.loop.commands c.loop.reader whole c.loop.invariant (λ command. command) (λ commands. commands) c.in_err-read_counted.field-0.0 c.read_counted.new.reader c.read_counted.new.reader c.loop-test.true c.in_err-read_counted.ensures)
+    rw (p.1, p.2) (refused_repeated counted_command_at c.args.count c.loop.counter c.loop.commands c.loop.reader whole c.loop.invariant (λ command. command) (λ commands. commands) c.in_err-read_counted.field-0.0 c.read_counted.new.reader c.read_counted.new.reader c.loop-test.true c.in_err-read_counted.ensures.read)
 
 pub loop-preserved : goal.loop-preserved
 loop-preserved c =
     let whole = in_order (replicate c.args.count counted_command_at) c.args.reader.now in
-    rw c.in_ok-push.ensures.ok (next_repeated counted_command_at c.args.count c.loop.counter c.loop.commands c.loop.reader whole c.loop.invariant c.in_ok-read_counted.field-0 c.read_counted.new.reader c.loop-test.true c.in_ok-read_counted.ensures)
+    rw c.in_ok-push.ensures.ok (next_repeated counted_command_at c.args.count c.loop.counter c.loop.commands c.loop.reader whole c.loop.invariant c.in_ok-read_counted.field-0 c.read_counted.new.reader c.loop-test.true c.in_ok-read_counted.ensures.read)
