@@ -127,9 +127,15 @@ pub record StopsBetween (pieces : List (List ℕ)) (old new : Option (List ℕ))
   pub left : List (List ℕ)
   pub so_far : WritesUpTo pieces left old new
 
--- what was written where a seal failed: all pieces before that of one of the lines
+-- the text of an `init` or an `act` line; no other line asks for a seal
+pub data IsActText : List ℕ → Type 0 where
+  init : (rest : List ℕ) → IsActText (codes "init " ++ rest)
+  act : (rest : List ℕ) → IsActText (codes "act " ++ rest)
+
+-- what was written where a seal failed: all pieces before that of a line that asks for one
 pub record StopsAtLine (pieces : List (List ℕ)) (old new : Option (List ℕ)) : Type 0 where
   pub next : List ℕ
+  pub acts : IsActText next
   pub left : List (List ℕ)
   pub so_far : WritesUpTo pieces (next ∷ left) old new
 

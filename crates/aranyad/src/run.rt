@@ -52,7 +52,7 @@ pub fn read_limited<F: Files>(
 pub fn refuse<K: Sink>(out: &mut K, ending: Ending, line: &[u8]) -> Result<Ending, Halt>
     ensures run { RunsTo result (refused (ending_status ending) line.now) (K.written out.old) (K.written out.new) }
     ensures ending { IfOk result (λ end. end ≡ ending) }
-    ensures line { OnOk result (K.written out.new ≡ append_known (K.written out.old) line.now) }
+    ensures line { Writes result line.now (K.written out.old) (K.written out.new) }
     ensures cause { WriteHalts (K.faults out.old) (K.faults out.new) result }
 {
     match write_all(out, line) {

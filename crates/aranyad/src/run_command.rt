@@ -5,6 +5,7 @@ ghost use Rattle.aranyad.specs.Ending.{HaltsWithCause, counts};
 ghost use Rattle.aranyad.specs.FailedReads.{ReadFails};
 ghost use Rattle.aranyad.specs.Modes.{mode_of};
 ghost use Rattle.aranyad.specs.Outcome.{Follows, Outcome, Runs, RunsMode, RunsTo, usage_line};
+ghost use Rattle.aranyad.specs.Written.{WritesFront};
 ghost use Rattle.aranyad.specs.declared.ending.Ending.TheVariants as ending;
 ghost use Rattle.aranyad.specs.declared.ending.Halt.TheVariants as halt;
 
@@ -57,6 +58,7 @@ fn run_words<F: Files, E: Envelope, K: Sink>(
     ensures name { result ≡ Err halt.Read → ReadFails (F.holds files.old) (mode_of words.now) (F.last files.new) }
     ensures nothing { result ≡ Err halt.Read → K.written out.new ≡ K.written out.old }
     ensures line { result ≡ Ok ending.Usage → K.written out.new ≡ append_known (K.written out.old) usage_line }
+    ensures front { mode_of words.now ≡ None → WritesFront usage_line (K.written out.old) (K.written out.new) }
 {
     match choose(alloc, words) {
         Ok(mode) => run_mode(alloc, mode, files, env, out),
@@ -88,6 +90,7 @@ pub fn run_command<F: Files, D: Disk, E: Envelope, K: Sink>(
     ensures usage { result ≡ Status.Usage → mode_of words.now ≡ None }
     ensures no_mode { mode_of words.now ≡ None → (result ≡ Status.Usage) ⊎ (result ≡ Status.WriteFault) }
     ensures usage_line { result ≡ Status.Usage → K.written out.new ≡ append_known (K.written out.old) usage_line }
+    ensures usage_front { mode_of words.now ≡ None → WritesFront usage_line (K.written out.old) (K.written out.new) }
     ensures read { result ≡ Status.ReadFault → Rose (F.faults files.old) (F.faults files.new) }
     ensures name { result ≡ Status.ReadFault → ReadFails (F.holds files.old) (mode_of words.now) (F.last files.new) }
     ensures nothing { result ≡ Status.ReadFault → K.written out.new ≡ K.written out.old }

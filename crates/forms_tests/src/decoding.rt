@@ -7,13 +7,13 @@ use sqlite_items::{Boxed, Items};
 use std::alloc::Global;
 use std::test::*;
 
-// An enum of two variants, a struct of two bools, and an item of neither kind.
+// An enum of two variants, a struct of a bool and that enum, and an item of neither kind.
 fn shapes(alloc: Global) -> Result<Shapes, NoMemory>
     ensures { IfOk result NoneReachesItself }
 {
     let mut types = Items::new(alloc);
     types.push(Ty::Bool)?;
-    types.push(Ty::Bool)?;
+    types.push(Ty::Enum(0))?;
     let mut items = Items::new(alloc);
     items.push(Shape::Variants(2))?;
     items.push(Shape::Fields(types))?;
@@ -39,12 +39,28 @@ fn only_spellings_are_decoded(rt: HostRuntime) -> Result<(), Fail> {
         (Ty::Str, "02000000 6161", false),
         (Ty::Raw, "00000001 c3", true),
         (Ty::Raw, "ffffffff c3", false),
+        (
+            Ty::Ident,
+            "0102030405060708 090a0b0c0d0e0f10 1112131415161718 191a1b1c1d1e1f20",
+            true,
+        ),
+        (
+            Ty::Ident,
+            "0102030405060708 090a0b0c0d0e0f10 1112131415161718 191a1b1c1d1e1f",
+            false,
+        ),
+        (
+            Ty::Ident,
+            "0102030405060708 090a0b0c0d0e0f10 1112131415161718 191a1b1c1d1e1f20 21",
+            false,
+        ),
         (Ty::Enum(0), "0001", true),
         (Ty::Enum(0), "0002", false),
         (Ty::Enum(1), "0000", false),
         (Ty::Enum(3), "0000", false),
-        (Ty::Struct(1), "0100", true),
-        (Ty::Struct(1), "010000", false),
+        (Ty::Struct(1), "010001", true),
+        (Ty::Struct(1), "010002", false),
+        (Ty::Struct(1), "01000100", false),
         (Ty::Struct(2), "", false),
         (Ty::Never, "", false),
     ] {

@@ -60,7 +60,7 @@ fn requests_have_limits(rt: HostRuntime) -> Result<(), Fail> {
         (32, "00010000", true),
         (33, "00000000", false),
         (0, "00010001", false),
-        (0, "00000100", true),
+        (0, "00000001", true),
     ] {
         let message = request(alloc, ids, from)?;
         assert_taken(&rt, alloc, Form::Request, &message, taken)?;

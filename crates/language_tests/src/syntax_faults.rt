@@ -46,6 +46,9 @@ let a = 1
 # syntax, line 6
 let a = E::V
 ::W
+# syntax, line 6
+let a = E::V
+()
 # syntax, line 5
 let a =
 None

@@ -69,6 +69,13 @@ rows_text (Some f) rows = flat_map (row_text f) rows
 abbrev pub facts_text : List Item → Name → List Row → List ℕ
 facts_text items name rows = concat (codes "facts " ∷ name ∷ codes ": " ∷ decimal (length rows) ∷ codes "\n" ∷ rows_text (fact_of items) rows ∷ [])
 
+-- the lines that may publish a command, and so ask for a seal
+abbrev pub Acts : Line → Type 0
+Acts (Replica a) = ⊥
+Acts (Init a f) = Unit
+Acts (Act a g ns) = Unit
+Acts (Facts a) = ⊥
+
 -- the maker of a replica's commands: its author is named after it
 abbrev pub maker_of : Tagging → List ℕ → Name → Maker
 maker_of tagged digest name = maker tagged digest (author_id name)

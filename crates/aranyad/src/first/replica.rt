@@ -1,5 +1,6 @@
-ghost use Rattle.std.specs.Prelude.{◌≡◌, [], codes, IsTrue, IfOk, OnErr};
+ghost use Rattle.std.specs.Prelude.{◌≡◌, [], codes, Err, IsTrue, IfOk, OnErr};
 ghost use Rattle.outside.specs.Envelope.{author_id};
+ghost use Rattle.aranyad.specs.declared.first.stop.Stop.TheVariants as stop;
 ghost use Rattle.aranyad.specs.first.Acting as acting;
 ghost use Rattle.aranyad.specs.first.Making.{Leads, SealHasCause, Stands};
 ghost use Rattle.aranyad.specs.first.Running as running;
@@ -74,7 +75,7 @@ fn act_line<E: Envelope>(
     }
 }
 
-/// What a line leads to, and its text. The digest is that of the policy's document.
+/// What a line leads to, and its text. The digest is that of the policy's document. After an error the replica is as before.
 pub fn step<E: Envelope>(
     alloc: Global,
     digest: &Id,
@@ -87,6 +88,8 @@ pub fn step<E: Envelope>(
     requires stands { Stands items.now replica.old.commands replica.old.rows }
     ensures step { IfOk result (Leads E.tag_of (λ tagged. running.step tagged digest.now items.now replica.old.commands line.now) replica.new.commands) }
     ensures stands { Stands items.now replica.new.commands replica.new.rows }
+    ensures same { OnErr result (replica.new ≡ replica.old) }
+    ensures acts { result ≡ Err stop.Seal → running.Acts line.now }
     ensures cause { SealHasCause (E.faults env.old) (E.faults env.new) result }
 {
     match line {

@@ -1,7 +1,7 @@
 // The limits of the files, and what is judged before what.
 use crate::tests::rows::{FIRST, Row};
 
-pub const ROWS: [Row; 11] = [
+pub const ROWS: [Row; 13] = [
     Row {
         name: "a policy of the limit",
         policy_length: 1_048_576,
@@ -64,6 +64,22 @@ pub const ROWS: [Row; 11] = [
         policy: "x\n",
         status: 1,
         text: &["policy refused: no front matter, line 1\n"],
+        ..FIRST
+    },
+    Row {
+        name: "a syntax fault, and no script",
+        words: &["run", "policy", "gone"],
+        policy: "---\npolicy-version: 2\n---\n```policy\n}\n```\n",
+        status: 1,
+        text: &["policy refused: syntax, line 5\n"],
+        ..FIRST
+    },
+    Row {
+        name: "a policy that is no small one, and no script",
+        words: &["run", "policy", "gone"],
+        policy: "---\npolicy-version: 2\n---\n",
+        status: 1,
+        text: &["policy refused: unbuilt\n"],
         ..FIRST
     },
     Row {

@@ -5,7 +5,7 @@ pub const USAGE: &[&str] = &[
     "usage: aranyad check POLICY | run POLICY SCRIPT [--store DIR] | code POLICY | gen N | serve POLICY SCRIPT --rounds N\n",
 ];
 
-pub const OTHERS: [(&str, &[&str]); 21] = [
+pub const OTHERS: [(&str, &[&str]); 25] = [
     ("no word", &[]),
     ("one word", &["run"]),
     ("two words", &["run", "policy"]),
@@ -14,6 +14,10 @@ pub const OTHERS: [(&str, &[&str]); 21] = [
     (
         "an option in one",
         &["run", "policy", "script", "--store=d"],
+    ),
+    (
+        "an option before the names",
+        &["run", "--store", "d", "policy", "script"],
     ),
     ("an empty policy's name", &["run", "", "script"]),
     ("an empty script's name", &["run", "policy", ""]),
@@ -27,6 +31,15 @@ pub const OTHERS: [(&str, &[&str]); 21] = [
     ("code", &["code", "policy"]),
     ("gen", &["gen", "3"]),
     ("serve", &["serve", "policy", "script", "--rounds", "2"]),
+    (
+        "serve, with an option in one",
+        &["serve", "--rounds=2", "policy", "script"],
+    ),
+    ("session", &["session", "policy", "script", "calls"]),
+    (
+        "watch",
+        &["watch", "policy", "script", "a", "Item", "--readers", "2"],
+    ),
     ("help", &["--help"]),
     ("version", &["--version"]),
     ("two dashes", &["--"]),
