@@ -1,10 +1,10 @@
 -- Texts that are written a piece at a time.
-use Rattle.std.proofs.Common.{◌≡◌, ℕ, ◌-◌, List, [], ◌∷◌, ◌++◌, Option, Some, None, Result, Ok, Err, length, take, drop, refl, sym, ap, ◌∙◌, arith, append_assoc, append-nil, length-drop}
+use Rattle.std.proofs.Common.{◌≡◌, ℕ, ◌-◌, List, [], ◌∷◌, ◌++◌, Option, Some, None, length, take, drop, refl, sym, ap, ◌∙◌, arith, append_assoc, append-nil, length-drop}
 use Rattle.std.proofs.lemmas.List.{take-append-drop, take_all}
 use Rattle.std.specs.Io.KnownBytes.{append_known}
 use Rattle.std.specs.List.{concat}
 use Rattle.aranyad.specs.Outcome.{StopsBetween, WritesUpTo}
-use Rattle.aranyad.specs.Written.{Writes, WritesBut, WritesFront}
+use Rattle.aranyad.specs.Written.{WritesBut, WritesFront}
 
 -- two pieces, one after the other, are the one piece that they make
 pub append_known-append : (known : Option (List ℕ)) (a b : List ℕ) → append_known (append_known known a) b ≡ append_known known (a ++ b)
@@ -27,11 +27,6 @@ take-behind n m xs is = ap (λ l. take n xs ++ l) (take_all m (drop n xs) (omega
 pub append_none : (old : Option (List ℕ)) → append_known old [] ≡ old
 append_none None = refl
 append_none (Some xs) = ap Some (append-nil xs)
-
--- the whole of a text, or a front of it, is a front of it
-pub front_of_written : {T E : Type 0} (result : Result T E) (text : List ℕ) (old new : Option (List ℕ)) → Writes result text old new → WritesFront text old new
-front_of_written (Ok x) text old new whole = record { rest = []; so_far = record { part = text; whole = append-nil text; added = whole } }
-front_of_written (Err e) text old new front = front
 
 -- an end before anything was written
 pub stopped_at_once : (pieces : List (List ℕ)) (old : Option (List ℕ)) → StopsBetween pieces old old
