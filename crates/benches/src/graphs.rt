@@ -26,34 +26,34 @@ pub enum Shape {
 
 fn strands(alloc: Global, size: usize) -> Result<Vec<Step>, NoMemory> {
     let mut steps = Vec::new(alloc);
-    steps.push(Step::Init)?;
-    steps.push(Step::Basic(1, 0))?;
-    steps.push(Step::Basic(2, 0))?;
+    steps.push(Step::Init(0))?;
+    steps.push(Step::Basic(1, 0, 0))?;
+    steps.push(Step::Basic(2, 0, 0))?;
     for _ in 1..size {
         let place = steps.len();
-        steps.push(Step::Basic(1, place.saturating_sub(2)))?;
-        steps.push(Step::Basic(2, place.saturating_sub(1)))?;
+        steps.push(Step::Basic(1, place.saturating_sub(2), 0))?;
+        steps.push(Step::Basic(2, place.saturating_sub(1), 0))?;
     }
     Ok(steps)
 }
 
 fn chain(alloc: Global, size: usize) -> Result<Vec<Step>, NoMemory> {
     let mut steps = Vec::new(alloc);
-    steps.push(Step::Init)?;
+    steps.push(Step::Init(0))?;
     for _ in 1..size {
-        steps.push(Step::Basic(1, steps.len().saturating_sub(1)))?;
+        steps.push(Step::Basic(1, steps.len().saturating_sub(1), 0))?;
     }
     Ok(steps)
 }
 
 fn diamonds(alloc: Global, size: usize) -> Result<Vec<Step>, NoMemory> {
     let mut steps = Vec::new(alloc);
-    steps.push(Step::Init)?;
+    steps.push(Step::Init(0))?;
     for _ in 0..size {
         let place = steps.len();
         let last = place.saturating_sub(1);
-        steps.push(Step::Basic(1, last))?;
-        steps.push(Step::Basic(2, last))?;
+        steps.push(Step::Basic(1, last, 0))?;
+        steps.push(Step::Basic(2, last, 0))?;
         steps.push(Step::Merge(place, place.saturating_add(1)))?;
     }
     Ok(steps)

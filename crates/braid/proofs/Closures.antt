@@ -1,5 +1,5 @@
--- The braid of a closure: in a list of its own, in a longer list, and under the heads.
-use Rattle.std.proofs.Common.{◌≡◌, ℕ, zero, suc, ◌+◌, ◌↔◌, if◌then◌else◌, inl, inr, Bool, true, false, List, [], ◌∷◌, ◌++◌, slice_get, Option, Some, None, refl, sym, ap, subst, ◌∙◌, arith, append_assoc}
+-- The braid of a closure: in a list of its own, under one tip, and under the heads.
+use Rattle.std.proofs.Common.{◌≡◌, ℕ, zero, suc, ◌+◌, ◌↔◌, if◌then◌else◌, inl, inr, Bool, true, false, List, [], ◌∷◌, ◌++◌, slice_get, Option, Some, None, refl, sym, ap, subst, ◌∙◌, arith}
 use Rattle.std.specs.List.{Contains, list_any}
 use Rattle.std.specs.Str.{bytes_eq}
 use Rattle.std.proofs.lemmas.List.Elements.{Contains-append_left, Contains-append_right, Contains-push, Contains-push_cases}
@@ -8,34 +8,20 @@ use Rattle.command.specs.declared.command.Command.{Command}
 use Rattle.command.specs.Ancestors.{Ancestor, IsAt, IsParent, IsUnder, IsUpTo, heads, is_parent, places_without}
 use Rattle.command.specs.Ancestors.Ancestor.{Parent}
 use Rattle.command.specs.Closed.{IsClosed, IsHeld, IsNext}
-use Rattle.command.specs.Each.{EachAfter}
 use Rattle.command.specs.Kinds.{parents_of}
 use Rattle.command.specs.Wire.{command_id}
-use Rattle.command.proofs.AncestorFacts.{ancestor_down, from_newest, kept, older_inside, under_down, was}
+use Rattle.command.proofs.AncestorFacts.{ancestor_down, from_newest, under_down}
 use Rattle.command.proofs.ClosedFacts.{held_by, held_command, same_bytes}
 use Rattle.command.proofs.KnownAncestors.{Known, ancestor_known, known_same}
-use Rattle.command.proofs.ListFacts.{at_head, behind_head, head_cases, each_before, each_last, each_more, from_end, none_element}
+use Rattle.command.proofs.ListFacts.{at_head, behind_head, head_cases, each_before, each_last, each_more, from_end, none_element, one_element}
 use Rattle.command.proofs.PlaceFacts.{inside_at}
 use Rattle.command.proofs.ReachFacts.{any_found}
-use Rattle.braid.specs.Agreeing.{ClosuresHaveOneBraid, IsClosure, Stays}
-use Rattle.braid.specs.Braids.{IsBraid, IsBraidTo, IsBraidUnder, IsPlaced}
+use Rattle.braid.specs.Agreeing.{ClosuresHaveOneBraid, IsClosure}
+use Rattle.braid.specs.Braids.{IsBraid, IsBraidTo, IsBraidUnder}
 use Rattle.braid.proofs.Agreement.{one_braid}
+use Rattle.braid.proofs.Carrying.{in_one_list, same_braids}
 use Rattle.braid.proofs.Gathering.{place_of_member}
-
--- places carried to another list, where the ancestors among the placed are the same
-module _ (cs ds : List Command) (In : Command → Type 0) (agree : (x y : Command) → In x → In y → Ancestor cs x y ↔ Ancestor ds x y) where
-  place_carried : (front : List Command) (x : Command) → ((z : Command) → Contains (front ++ x ∷ []) z → In z) → IsPlaced cs front x → IsPlaced ds front x
-  place_carried front x within p = record {
-    once = p.once;
-    above = λ z h a. p.above z h ((agree x z (within x (Contains-push front x)) (within z h)).1 a);
-    lowest = λ y h top. p.lowest y h (λ z k a. top z k ((agree y z (within y (Contains-append_left front (x ∷ []) y h)) (within z k)).0 a));
-  }
-
-  carried : (front xs : List Command) → ((z : Command) → Contains (front ++ xs) z → In z) → EachAfter (IsPlaced cs) front xs → EachAfter (IsPlaced ds) front xs
-  carried front [] within h = tt
-  carried front (x ∷ xs) within h =
-      let one : (z : Command) → Contains ((front ++ x ∷ []) ++ xs) z → In z = λ z k. within z (subst (λ l. Contains l z) (append_assoc front (x ∷ []) xs) k) in
-      (place_carried front x (λ z k. one z (Contains-append_left (front ++ x ∷ []) xs z k)) h.0, carried (front ++ x ∷ []) xs one h.1)
+use Rattle.braid.proofs.PickOrder.{one_at}
 
 -- ---- a closure in a list of its own
 
@@ -46,24 +32,13 @@ module _ (cs : List Command) (tips : List ℕ) (part : List Command) (is : IsClo
   narrower : (x y : Command) → Contains part x → Contains part y → Ancestor cs x y → Ancestor part x y
   narrower x y h k a = ancestor_down part cs (λ m z e inside. (is.holds m).1 (e.older, under_down cs tips m z (Parent e) ((is.holds z).0 inside).1)) x y a k
 
-  into : (l : List Command) → IsBraid part l → IsBraidUnder cs tips l
-  into l p = record {
-    holds = λ x. (
-      (λ h. let there = (p.holds x).0 h in let both = (is.holds x).0 there.0 in (both.0, both.1, there.2)),
-      (λ h. (p.holds x).1 ((is.holds x).1 (h.0, h.1), tt, h.2)),
-    );
-    placed = carried part cs (λ z. Contains part z) (λ x y h k. (wider x y h k, narrower x y h k)) [] l (λ z h. ((p.holds z).0 h).0) p.placed;
-  }
-
-  out_of : (l : List Command) → IsBraidUnder cs tips l → IsBraid part l
-  out_of l p = record {
-    holds = λ x. (
-      (λ h. let there = (p.holds x).0 h in ((is.holds x).1 (there.0, there.1), tt, there.2)),
-      (λ h. let both = (is.holds x).0 h.0 in (p.holds x).1 (both.0, both.1, h.2)),
-    );
-    placed = carried cs part (λ z. Contains part z) (λ x y h k. (narrower x y h k, wider x y h k)) [] l
-        (λ z h. let there = (p.holds z).0 h in (is.holds z).1 (there.0, there.1)) p.placed;
-  }
+  own : (l : List Command) → IsBraid part l ↔ IsBraidUnder cs tips l
+  own =
+      same_braids part cs (λ x. Unit {0}) (IsUnder cs tips)
+      (record {
+        same = λ x. ((λ h. (is.holds x).0 h.0), (λ h. ((is.holds x).1 h, tt)));
+        agree = λ x y h k. (wider x y h.0 k.0, narrower x y h.0 k.0);
+      })
 
 -- ---- there is such a list
 
@@ -199,10 +174,17 @@ module _ (cs : List Command) (closed : IsClosed cs) where
   all_under x inside = from_newest (λ y. IsUnder cs (heads cs) y) cs closed step x inside
 
   whole : (l : List Command) → IsBraid cs l ↔ IsBraidUnder cs (heads cs) l
-  whole l = (
-    (λ p. record { holds = λ x. ((λ h. let there = (p.holds x).0 h in (there.0, all_under x there.0, there.2)), (λ h. (p.holds x).1 (h.0, tt, h.2))); placed = p.placed }),
-    (λ p. record { holds = λ x. ((λ h. let there = (p.holds x).0 h in (there.0, tt, there.2)), (λ h. (p.holds x).1 (h.0, all_under x h.0, h.2))); placed = p.placed }),
-  )
+  whole = in_one_list cs (λ x. Unit {0}) (IsUnder cs (heads cs)) (λ x inside. ((λ h. all_under x inside), (λ h. tt)))
+
+  -- ---- under one tip
+
+  alone : (place : ℕ) (f : Command) → IsAt cs place f → (l : List Command) → IsBraidTo cs f l ↔ IsBraidUnder cs (place ∷ []) l
+  alone place f is =
+      in_one_list cs (IsUpTo cs f) (IsUnder cs (place ∷ []))
+      (λ x inside. (
+        (λ up. (place, at_head place [], (f, is, up))),
+        (λ u. subst (λ z. IsUpTo cs z x) (one_at cs place u.2.0 f (subst (λ p. IsAt cs p u.2.0) (sym (one_element place u.0 u.1)) u.2.1) is) u.2.2),
+      ))
 
   closure_of : (tips : List ℕ) → (part : List Command) × IsClosure cs tips part
   closure_of tips =
@@ -212,35 +194,8 @@ module _ (cs : List Command) (closed : IsClosed cs) where
   pub closures : ClosuresHaveOneBraid cs
   closures = record {
     some = closure_of;
-    own = λ tips part is l. (into cs tips part is l, out_of cs tips part is l);
+    own = λ tips part is. own cs tips part is;
     one = λ tips a b. one_braid cs closed (IsUnder cs tips) a b;
+    tip = alone;
     all = whole;
-  }
-
--- ---- after an append
-
-module _ (cs : List Command) (f : Command) (closed : IsClosed cs) (inside : Contains cs f) where
-  up_inside : (x : Command) → IsUpTo cs f x → Contains cs x
-  up_inside x up = elim up [ inl same ↦ subst (λ z. Contains cs z) (sym same) inside | inr above ↦ older_inside cs x f above ]
-
-  module _ (more part : List Command) (longer : IsClosed (cs ++ more)) (is : IsBraidTo cs f part) where
-    up_kept : (x : Command) → IsUpTo cs f x → IsUpTo (cs ++ more) f x
-    up_kept x up = elim up [ inl same ↦ inl same | inr above ↦ inr (kept cs more x f above) ]
-
-    up_was : (x : Command) → IsUpTo (cs ++ more) f x → IsUpTo cs f x
-    up_was x up = elim up [ inl same ↦ inl same | inr above ↦ inr (was cs more longer x f inside above) ]
-
-    kept_part : IsBraidTo (cs ++ more) f part
-    kept_part = record {
-      holds = λ x. (
-        (λ h. let there = (is.holds x).0 h in (Contains-append_left cs more x there.0, up_kept x there.1, there.2)),
-        (λ h. let up = up_was x h.1 in (is.holds x).1 (up_inside x up, up, h.2)),
-      );
-      placed = carried cs (cs ++ more) (λ z. Contains cs z) (λ x y h k. (kept cs more x y, was cs more longer x y k)) [] part (λ z h. ((is.holds z).0 h).0) is.placed;
-    }
-
-  pub stays : Stays cs f
-  stays = record {
-    one = λ a b. one_braid cs closed (IsUpTo cs f) a b;
-    kept = kept_part;
   }

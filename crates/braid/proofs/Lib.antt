@@ -10,4 +10,6 @@ pub mod Places
 pub mod Additions
 pub mod Progress
 pub mod Gathering
+pub mod Carrying
 pub mod Closures
+pub mod Appends

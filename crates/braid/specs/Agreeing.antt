@@ -1,8 +1,8 @@
 -- Lists that hold the same commands, and the laws of their braids.
-use Rattle.std.specs.Prelude.{◌≡◌, ℕ, ◌↔◌, true, false, List, ◌++◌}
+use Rattle.std.specs.Prelude.{◌≡◌, ℕ, ◌↔◌, true, false, List, [], ◌∷◌, ◌++◌}
 use Rattle.std.specs.List.{Contains}
 use Rattle.command.specs.declared.command.Command.{Command}
-use Rattle.command.specs.Ancestors.{IsUnder, heads}
+use Rattle.command.specs.Ancestors.{IsAt, IsUnder, heads}
 use Rattle.command.specs.Closed.{IsClosed}
 use Rattle.command.specs.Kinds.{is_merge}
 use Rattle.command.specs.Wire.{command_id}
@@ -27,12 +27,13 @@ pub record IsClosure (cs : List Command) (tips : List ℕ) (part : List Command)
   pub closed : IsClosed part
   pub holds : (x : Command) → Contains part x ↔ (Contains cs x × IsUnder cs tips x)
 
--- The braid under tips is one, and is the braid of their closure as a list of its own, which there is. That under the heads is
--- the braid of the list.
+-- The braid under tips is one, and is the braid of their closure as a list of its own, which there is. That under one tip is the
+-- braid of the closure of the command there, and that under the heads is the braid of the list.
 pub record ClosuresHaveOneBraid (cs : List Command) : Type 0 where
   pub some : (tips : List ℕ) → (part : List Command) × IsClosure cs tips part
   pub own : (tips : List ℕ) (part : List Command) → IsClosure cs tips part → (braid : List Command) → IsBraid part braid ↔ IsBraidUnder cs tips braid
   pub one : (tips : List ℕ) (a b : List Command) → IsBraidUnder cs tips a → IsBraidUnder cs tips b → a ≡ b
+  pub tip : (place : ℕ) (f : Command) → IsAt cs place f → (braid : List Command) → IsBraidTo cs f braid ↔ IsBraidUnder cs (place ∷ []) braid
   pub all : (braid : List Command) → IsBraid cs braid ↔ IsBraidUnder cs (heads cs) braid
 
 -- The braid of a finalize's closure begins the whole braid, where finalize commands are in line.
@@ -42,4 +43,8 @@ IsFinal cs f = (braid : List Command) → IsBraid cs braid → (part : List Comm
 -- The braid of a command's closure is one, and is the same after an append.
 pub record Stays (cs : List Command) (f : Command) : Type 0 where
   pub one : (a b : List Command) → IsBraidTo cs f a → IsBraidTo cs f b → a ≡ b
-  pub kept : (more part : List Command) → IsClosed (cs ++ more) → IsBraidTo cs f part → IsBraidTo (cs ++ more) f part
+  pub kept : (more braid : List Command) → IsClosed (cs ++ more) → IsBraidTo cs f braid ↔ IsBraidTo (cs ++ more) f braid
+
+-- The braid under tips is the same after an append.
+abbrev pub StaysUnder : List Command → List ℕ → Type 0
+StaysUnder cs tips = (more braid : List Command) → IsClosed (cs ++ more) → IsBraidUnder cs tips braid ↔ IsBraidUnder (cs ++ more) tips braid

@@ -1,10 +1,10 @@
-ghost use Rattle.std.specs.Prelude.{◌≡◌, true, List};
-ghost use Rattle.std.specs.List.{Contains};
+ghost use Rattle.std.specs.Prelude.{◌≡◌, ◌<◌, ℕ, true, List, length};
+ghost use Rattle.std.specs.List.{All, Contains};
 ghost use Rattle.command.specs.Ancestors.{AreInLine};
 ghost use Rattle.command.specs.Closed.{IsClosed};
 ghost use Rattle.command.specs.Kinds.{is_finalize};
 ghost use Rattle.command.specs.declared.command.Command.{Command};
-ghost use Rattle.braid.specs.Agreeing.{Agree, ClosuresHaveOneBraid, HasOneBraid, HaveOneBraid, IsFinal, Stays};
+ghost use Rattle.braid.specs.Agreeing.{Agree, ClosuresHaveOneBraid, HasOneBraid, HaveOneBraid, IsFinal, Stays, StaysUnder};
 
 /// Each closed list of commands has exactly one braid.
 pub fn lists_have_one_braid()
@@ -16,15 +16,16 @@ pub fn agreeing_lists_have_one_braid()
     ensures { (one other : List Command) → IsClosed one → IsClosed other → Agree one other → HaveOneBraid one other }
 {}
 
-/// The braid under tips is the braid of their closure, as a closed list of its own, and there is one. Under the heads of a
-/// closed list it is the braid of the list.
+/// The braid under tips is the braid of their closure, as a closed list of its own, and there is one. Under one tip it is the
+/// braid of the closure of the command there, and under the heads of a closed list the braid of the list.
 pub fn closures_have_one_braid()
     ensures { (commands : List Command) → IsClosed commands → ClosuresHaveOneBraid commands }
 {}
 
-/// What is appended leaves the braid of a command's closure as it was.
+/// What is appended leaves the braid of a command's closure as it was, and that under tips.
 pub fn closures_stay()
-    ensures { (commands : List Command) (command : Command) → IsClosed commands → Contains commands command → Stays commands command }
+    ensures command { (commands : List Command) (command : Command) → IsClosed commands → Contains commands command → Stays commands command }
+    ensures tips { (commands : List Command) (tips : List ℕ) → All (λ place. place < length commands) tips → StaysUnder commands tips }
 {}
 
 /// The braid of a finalize's closure begins the whole braid, where finalize commands are in line.

@@ -7,5 +7,8 @@ mod laws;
 mod lowest;
 mod ordering;
 
-pub use laws::{agreeing_lists_have_one_braid, finalize_is_final, lists_have_one_braid};
+pub use laws::{
+    agreeing_lists_have_one_braid, closures_have_one_braid, closures_stay, finalize_is_final,
+    lists_have_one_braid,
+};
 pub use ordering::braid;

@@ -48,7 +48,7 @@ before_at xs i j x is lt =
     let within = slice_get_within xs i x is in
     (i, omega (arith, length-take j xs, within, lt), get_or-take j xs i x lt ∙ get_or_from_slice_get xs i x x is)
 
--- an ancestor stands before
+-- no ancestor stands at the same place or later
 pub older_first : (cs : List Command) → IsClosed cs → (i j : ℕ) (x y : Command) → IsAt cs i x → IsAt cs j y → j ≤ i → Ancestor cs x y → ⊥
 older_first cs closed i j x y there here le above =
     elim (order i j le) [
@@ -61,6 +61,10 @@ older_first cs closed i j x y there here le above =
 
     one_at : (i j : ℕ) → i ≡ j → IsAt cs i x → IsAt cs j y → y ≡ x
     one_at i j same there here = let both : Some y ≡ Some x = sym here ∙ ap (λ k. slice_get cs k) (sym same) ∙ there in cc
+
+-- an ancestor stands before
+pub stands_before : (cs : List Command) → IsClosed cs → (i j : ℕ) (x y : Command) → IsAt cs i x → IsAt cs j y → Ancestor cs x y → i < j
+stands_before cs closed i j x y there here above = elim (cases_lt i j) [ inl lt ↦ lt | inr ge ↦ absurd (older_first cs closed i j x y there here ge above) ]
 
 -- a command stands at one place
 one_first : (cs : List Command) → IsClosed cs → (i j : ℕ) (x : Command) → IsAt cs i x → IsAt cs j x → i < j → ⊥

@@ -6,7 +6,7 @@ use std::alloc::Global;
 use std::process::Abort;
 use std::test::*;
 
-const STEPS: [Step; 3] = [Step::Init, Step::Basic(1, 0), Step::Basic(2, 1)];
+const STEPS: [Step; 3] = [Step::Init(0), Step::Basic(1, 0, 1), Step::Basic(2, 1, 2)];
 
 fn graph<R: Abort>(rt: &R, alloc: Global) -> Result<ListGraph, NoMemory> {
     match made::<ListGraph>(alloc, &STEPS)? {
@@ -40,7 +40,7 @@ fn a_copy_stays(rt: HostRuntime) -> Result<(), Fail> {
     graph.reserve(2)?;
     let room = graph.spare();
     assert!(rt; room >= 2);
-    let next = command(alloc, &graph, Step::Basic(3, 2), 3)?;
+    let next = command(alloc, &graph, Step::Basic(3, 2, 3))?;
     let is_appended = match next {
         Some(next) => append(&mut graph, next),
         None => false,
@@ -54,13 +54,16 @@ fn a_copy_stays(rt: HostRuntime) -> Result<(), Fail> {
     Ok(())
 }
 
-// What may not be appended is what the call's conditions rule out: a command that is held, and one whose parent isn't.
+// What may not be appended is what the call's conditions rule out: a command that is held, a merge of one command with itself,
+// and a command whose parent isn't held.
 #[test]
 fn commands_stand_once(rt: HostRuntime) -> Result<(), Fail> {
     let alloc = rt.alloc();
-    let twice = made::<ListGraph>(alloc, &[Step::Init, Step::Merge(0, 0)])?;
+    let twice = made::<ListGraph>(alloc, &[Step::Init(0), Step::Init(0)])?;
     assert!(rt; twice.is_none());
-    let none = made::<ListGraph>(alloc, &[Step::Init, Step::Basic(1, 5)])?;
+    let itself = made::<ListGraph>(alloc, &[Step::Init(0), Step::Merge(0, 0)])?;
+    assert!(rt; itself.is_none());
+    let none = made::<ListGraph>(alloc, &[Step::Init(0), Step::Basic(1, 5, 1)])?;
     assert!(rt; none.is_none());
     Ok(())
 }

@@ -5,6 +5,8 @@
 mod calls;
 pub mod made;
 #[cfg(test)]
+mod pairs;
+#[cfg(test)]
 mod rows;
 #[cfg(test)]
 mod tables;

@@ -11,12 +11,12 @@ use command::{Command, Graph, MAX_COMMANDS, Places, id_of};
 use std::alloc::Global;
 use std::cmp::Ordering;
 
-/// A command by its kind, with the places of its parents.
+/// A command by its kind: the priority of a basic one, the places of the parents, and last the one byte of its payload.
 #[derive(Clone, Copy)]
 pub enum Step {
-    Init,
-    Basic(u32, usize),
-    Finalize(usize),
+    Init(u8),
+    Basic(u32, usize, u8),
+    Finalize(usize, u8),
     Merge(usize, usize),
 }
 
@@ -24,10 +24,10 @@ const DIGEST: [u8; 32] = [1; 32];
 
 const AUTHOR: [u8; 32] = [2; 32];
 
-fn payload(alloc: Global, number: u8) -> Result<Bytes, NoMemory>
+fn payload(alloc: Global, byte: u8) -> Result<Bytes, NoMemory>
     ensures { IfOk result (λ payload. length payload ≤ 4096) }
 {
-    Bytes::from_slice(alloc, &[number])
+    Bytes::from_slice(alloc, &[byte])
 }
 
 fn tag() -> Tag {
@@ -43,19 +43,19 @@ pub fn id_at<G: Graph>(graph: &G, place: usize) -> Option<Id> {
     }
 }
 
-fn init(alloc: Global, number: u8) -> Result<Command, NoMemory>
+fn init(alloc: Global, byte: u8) -> Result<Command, NoMemory>
     ensures { IfOk result IsInForm }
 {
     Ok(Command::Init {
         digest: Id::new(DIGEST),
         author: Id::new(AUTHOR),
         name: Text::from_slice(alloc, "c")?,
-        payload: payload(alloc, number)?,
+        payload: payload(alloc, byte)?,
         tag: tag(),
     })
 }
 
-fn basic(alloc: Global, number: u8, priority: u32, parent: Id) -> Result<Command, NoMemory>
+fn basic(alloc: Global, byte: u8, priority: u32, parent: Id) -> Result<Command, NoMemory>
     ensures { IfOk result IsInForm }
 {
     Ok(Command::Basic {
@@ -63,19 +63,19 @@ fn basic(alloc: Global, number: u8, priority: u32, parent: Id) -> Result<Command
         parent,
         author: Id::new(AUTHOR),
         name: Text::from_slice(alloc, "c")?,
-        payload: payload(alloc, number)?,
+        payload: payload(alloc, byte)?,
         tag: tag(),
     })
 }
 
-fn finalize(alloc: Global, number: u8, parent: Id) -> Result<Command, NoMemory>
+fn finalize(alloc: Global, byte: u8, parent: Id) -> Result<Command, NoMemory>
     ensures { IfOk result IsInForm }
 {
     Ok(Command::Finalize {
         parent,
         author: Id::new(AUTHOR),
         name: Text::from_slice(alloc, "c")?,
-        payload: payload(alloc, number)?,
+        payload: payload(alloc, byte)?,
         tag: tag(),
     })
 }
@@ -103,22 +103,17 @@ fn merge_in_order(left: Id, right: Id) -> Option<Command>
 }
 
 /// The command of a step, and None where its parents aren't there.
-pub fn command<G: Graph>(
-    alloc: Global,
-    graph: &G,
-    step: Step,
-    number: u8,
-) -> Result<Option<Command>, NoMemory>
+pub fn command<G: Graph>(alloc: Global, graph: &G, step: Step) -> Result<Option<Command>, NoMemory>
     ensures { IfOk result (λ found. IfSome found IsInForm) }
 {
     match step {
-        Step::Init => Ok(Some(init(alloc, number)?)),
-        Step::Basic(priority, parent) => match id_at(graph, parent) {
-            Some(parent) => Ok(Some(basic(alloc, number, priority, parent)?)),
+        Step::Init(byte) => Ok(Some(init(alloc, byte)?)),
+        Step::Basic(priority, parent, byte) => match id_at(graph, parent) {
+            Some(parent) => Ok(Some(basic(alloc, byte, priority, parent)?)),
             None => Ok(None),
         },
-        Step::Finalize(parent) => match id_at(graph, parent) {
-            Some(parent) => Ok(Some(finalize(alloc, number, parent)?)),
+        Step::Finalize(parent, byte) => match id_at(graph, parent) {
+            Some(parent) => Ok(Some(finalize(alloc, byte, parent)?)),
             None => Ok(None),
         },
         Step::Merge(one, other) => match (id_at(graph, one), id_at(graph, other)) {
@@ -170,15 +165,13 @@ pub fn append<G: Graph>(graph: &mut G, command: Command) -> bool
 pub fn made<G: Graph + Drop>(alloc: Global, steps: &[Step]) -> Result<Option<G>, NoMemory> {
     let mut graph = G::empty(alloc)?;
     graph.reserve(steps.len())?;
-    let mut number = 0u8;
     for step in steps {
-        let Some(command) = command(alloc, &graph, *step, number)? else {
+        let Some(command) = command(alloc, &graph, *step)? else {
             return Ok(None);
         };
         if !append(&mut graph, command) {
             return Ok(None);
         }
-        number = number.wrapping_add(1);
     }
     Ok(Some(graph))
 }

@@ -1,6 +1,7 @@
 // Small graphs, with the places of their commands in the order of the braid, worked out by hand from the rule. Where priorities
 // are equal, the order goes by ids that another program made.
 use crate::made::Step;
+use crate::pairs::{ONE_JOIN, ONE_ORDER, OTHER_JOIN, OTHER_ORDER};
 
 #[derive(Clone, Copy)]
 pub struct Row {
@@ -13,7 +14,7 @@ pub struct Row {
     pub ancestors: &'static [&'static [usize]],
 }
 
-pub const ROWS: [Row; 18] = [
+pub const ROWS: [Row; 22] = [
     Row {
         name: "no commands, no tips",
         steps: &[],
@@ -24,7 +25,7 @@ pub const ROWS: [Row; 18] = [
     },
     Row {
         name: "one command",
-        steps: &[Step::Init],
+        steps: &[Step::Init(0)],
         tips: &[0],
         braid: &[0],
         heads: &[0],
@@ -32,7 +33,7 @@ pub const ROWS: [Row; 18] = [
     },
     Row {
         name: "no tips",
-        steps: &[Step::Init, Step::Basic(1, 0)],
+        steps: &[Step::Init(0), Step::Basic(1, 0, 1)],
         tips: &[],
         braid: &[],
         heads: &[1],
@@ -41,10 +42,10 @@ pub const ROWS: [Row; 18] = [
     Row {
         name: "a chain",
         steps: &[
-            Step::Init,
-            Step::Basic(5, 0),
-            Step::Basic(1, 1),
-            Step::Basic(9, 2),
+            Step::Init(0),
+            Step::Basic(5, 0, 1),
+            Step::Basic(1, 1, 2),
+            Step::Basic(9, 2, 3),
         ],
         tips: &[3],
         braid: &[0, 1, 2, 3],
@@ -54,10 +55,10 @@ pub const ROWS: [Row; 18] = [
     Row {
         name: "a tip in the middle of a chain",
         steps: &[
-            Step::Init,
-            Step::Basic(5, 0),
-            Step::Basic(1, 1),
-            Step::Basic(9, 2),
+            Step::Init(0),
+            Step::Basic(5, 0, 1),
+            Step::Basic(1, 1, 2),
+            Step::Basic(9, 2, 3),
         ],
         tips: &[2],
         braid: &[0, 1, 2],
@@ -66,7 +67,7 @@ pub const ROWS: [Row; 18] = [
     },
     Row {
         name: "two strands, the lower first",
-        steps: &[Step::Init, Step::Basic(1, 0), Step::Basic(10, 0)],
+        steps: &[Step::Init(0), Step::Basic(1, 0, 1), Step::Basic(10, 0, 2)],
         tips: &[1, 2],
         braid: &[0, 2, 1],
         heads: &[1, 2],
@@ -74,7 +75,7 @@ pub const ROWS: [Row; 18] = [
     },
     Row {
         name: "two strands, the higher first",
-        steps: &[Step::Init, Step::Basic(10, 0), Step::Basic(1, 0)],
+        steps: &[Step::Init(0), Step::Basic(10, 0, 1), Step::Basic(1, 0, 2)],
         tips: &[1, 2],
         braid: &[0, 1, 2],
         heads: &[1, 2],
@@ -83,10 +84,10 @@ pub const ROWS: [Row; 18] = [
     Row {
         name: "a strand above another",
         steps: &[
-            Step::Init,
-            Step::Basic(1, 0),
-            Step::Basic(10, 1),
-            Step::Basic(5, 0),
+            Step::Init(0),
+            Step::Basic(1, 0, 1),
+            Step::Basic(10, 1, 2),
+            Step::Basic(5, 0, 3),
         ],
         tips: &[2, 3],
         braid: &[0, 1, 2, 3],
@@ -96,9 +97,9 @@ pub const ROWS: [Row; 18] = [
     Row {
         name: "a diamond",
         steps: &[
-            Step::Init,
-            Step::Basic(1, 0),
-            Step::Basic(10, 0),
+            Step::Init(0),
+            Step::Basic(1, 0, 1),
+            Step::Basic(10, 0, 2),
             Step::Merge(1, 2),
         ],
         tips: &[3],
@@ -109,11 +110,11 @@ pub const ROWS: [Row; 18] = [
     Row {
         name: "a diamond, and what follows it",
         steps: &[
-            Step::Init,
-            Step::Basic(1, 0),
-            Step::Basic(10, 0),
+            Step::Init(0),
+            Step::Basic(1, 0, 1),
+            Step::Basic(10, 0, 2),
             Step::Merge(1, 2),
-            Step::Basic(20, 3),
+            Step::Basic(20, 3, 4),
         ],
         tips: &[4],
         braid: &[0, 2, 1, 4],
@@ -123,11 +124,11 @@ pub const ROWS: [Row; 18] = [
     Row {
         name: "equal priorities go by ids",
         steps: &[
-            Step::Init,
-            Step::Basic(5, 0),
-            Step::Basic(5, 0),
-            Step::Basic(5, 0),
-            Step::Basic(5, 0),
+            Step::Init(0),
+            Step::Basic(5, 0, 1),
+            Step::Basic(5, 0, 2),
+            Step::Basic(5, 0, 3),
+            Step::Basic(5, 0, 4),
         ],
         tips: &[1, 2, 3, 4],
         braid: &[0, 1, 3, 2, 4],
@@ -136,27 +137,29 @@ pub const ROWS: [Row; 18] = [
     },
     Row {
         name: "priority 0 behind an init",
-        steps: &[Step::Init, Step::Basic(0, 0), Step::Basic(0, 0)],
+        steps: &[Step::Init(0), Step::Basic(0, 0, 1), Step::Basic(0, 0, 2)],
         tips: &[1, 2],
         braid: &[0, 1, 2],
         heads: &[1, 2],
         ancestors: &[&[], &[0], &[0]],
     },
     Row {
-        name: "crossed merges",
+        name: "crossed merges, and what follows each",
         steps: &[
-            Step::Init,
-            Step::Basic(3, 0),
-            Step::Basic(7, 0),
+            Step::Init(0),
+            Step::Basic(3, 0, 1),
+            Step::Basic(7, 0, 2),
             Step::Merge(1, 2),
-            Step::Basic(2, 1),
-            Step::Basic(8, 2),
+            Step::Basic(2, 1, 4),
+            Step::Basic(8, 2, 5),
             Step::Merge(4, 5),
-            Step::Merge(3, 6),
+            Step::Basic(100, 3, 7),
+            Step::Basic(90, 6, 8),
+            Step::Merge(7, 8),
         ],
-        tips: &[7],
-        braid: &[0, 2, 5, 1, 4],
-        heads: &[7],
+        tips: &[9],
+        braid: &[0, 2, 1, 7, 5, 4, 8],
+        heads: &[9],
         ancestors: &[
             &[],
             &[0],
@@ -165,12 +168,18 @@ pub const ROWS: [Row; 18] = [
             &[0, 1],
             &[0, 2],
             &[0, 1, 2, 4, 5],
-            &[0, 1, 2, 3, 4, 5, 6],
+            &[0, 1, 2, 3],
+            &[0, 1, 2, 4, 5, 6],
+            &[0, 1, 2, 3, 4, 5, 6, 7, 8],
         ],
     },
     Row {
         name: "a finalize beside the greatest priority",
-        steps: &[Step::Init, Step::Basic(4294967295, 0), Step::Finalize(0)],
+        steps: &[
+            Step::Init(0),
+            Step::Basic(4294967295, 0, 1),
+            Step::Finalize(0, 2),
+        ],
         tips: &[1, 2],
         braid: &[0, 2, 1],
         heads: &[1, 2],
@@ -179,12 +188,12 @@ pub const ROWS: [Row; 18] = [
     Row {
         name: "two finalize commands in line",
         steps: &[
-            Step::Init,
-            Step::Basic(9, 0),
-            Step::Finalize(0),
-            Step::Basic(4, 2),
-            Step::Finalize(3),
-            Step::Basic(1, 1),
+            Step::Init(0),
+            Step::Basic(9, 0, 1),
+            Step::Finalize(0, 2),
+            Step::Basic(4, 2, 3),
+            Step::Finalize(3, 4),
+            Step::Basic(1, 1, 5),
         ],
         tips: &[4, 5],
         braid: &[0, 2, 3, 4, 1, 5],
@@ -194,10 +203,10 @@ pub const ROWS: [Row; 18] = [
     Row {
         name: "tips that are ancestors of tips",
         steps: &[
-            Step::Init,
-            Step::Basic(5, 0),
-            Step::Basic(1, 1),
-            Step::Basic(9, 0),
+            Step::Init(0),
+            Step::Basic(5, 0, 1),
+            Step::Basic(1, 1, 2),
+            Step::Basic(9, 0, 3),
         ],
         tips: &[0, 1, 2, 3, 2],
         braid: &[0, 3, 1, 2],
@@ -207,9 +216,9 @@ pub const ROWS: [Row; 18] = [
     Row {
         name: "merge of a command and its ancestor",
         steps: &[
-            Step::Init,
-            Step::Basic(2, 0),
-            Step::Basic(3, 1),
+            Step::Init(0),
+            Step::Basic(2, 0, 1),
+            Step::Basic(3, 1, 2),
             Step::Merge(1, 2),
         ],
         tips: &[3],
@@ -220,14 +229,18 @@ pub const ROWS: [Row; 18] = [
     Row {
         name: "one strand of two",
         steps: &[
-            Step::Init,
-            Step::Basic(1, 0),
-            Step::Basic(10, 0),
-            Step::Basic(4, 2),
+            Step::Init(0),
+            Step::Basic(1, 0, 1),
+            Step::Basic(10, 0, 2),
+            Step::Basic(4, 2, 3),
         ],
         tips: &[3],
         braid: &[0, 2, 3],
         heads: &[1, 3],
         ancestors: &[&[], &[0], &[0], &[0, 2]],
     },
+    ONE_ORDER,
+    OTHER_ORDER,
+    ONE_JOIN,
+    OTHER_JOIN,
 ];

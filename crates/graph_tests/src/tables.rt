@@ -1,6 +1,7 @@
-use crate::made::{braided, made};
+use crate::made::{braided, id_at, made};
+use crate::pairs::{PAIRS, Pair};
 use crate::rows::{ROWS, Row};
-use base_bytes::NoMemory;
+use base_bytes::{Id, NoMemory};
 use command::Graph;
 use graph_set::ListGraph;
 use std::alloc::Global;
@@ -67,6 +68,47 @@ fn each_graph_has_its_braid(rt: HostRuntime) -> Result<(), Fail> {
 fn each_command_has_its_ancestors(rt: HostRuntime) -> Result<(), Fail> {
     for row in &ROWS {
         assert_links(&rt, rt.alloc(), row)?;
+    }
+    Ok(())
+}
+
+// The ids in the order of the row's braid.
+fn ids_in_order(alloc: Global, row: &Row) -> Result<Vec<Id>, NoMemory> {
+    let mut ids = Vec::new(alloc);
+    let Some(graph) = made::<ListGraph>(alloc, row.steps)? else {
+        return Ok(ids);
+    };
+    let Some(places) = braided(alloc, &graph, row.tips)? else {
+        return Ok(ids);
+    };
+    for place in places.as_slice() {
+        if let Some(id) = id_at(&graph, *place) {
+            ids.push(id)?;
+        }
+    }
+    Ok(ids)
+}
+
+fn assert_one_order<R: Abort>(rt: &R, alloc: Global, pair: &Pair) -> Result<(), NoMemory> {
+    let one = ids_in_order(alloc, &pair.one)?;
+    let other = ids_in_order(alloc, &pair.other)?;
+    assert!(rt;
+        one.len() == pair.one.braid.len(),
+        "{}: not all",
+        pair.one.name
+    );
+    assert!(rt;
+        one.as_slice() == other.as_slice(),
+        "{}: other ids",
+        pair.other.name
+    );
+    Ok(())
+}
+
+#[test]
+fn the_same_commands_have_one_order(rt: HostRuntime) -> Result<(), Fail> {
+    for pair in &PAIRS {
+        assert_one_order(&rt, rt.alloc(), pair)?;
     }
     Ok(())
 }
