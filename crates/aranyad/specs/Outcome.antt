@@ -127,12 +127,12 @@ pub record StopsBetween (pieces : List (List ℕ)) (old new : Option (List ℕ))
   pub left : List (List ℕ)
   pub so_far : WritesUpTo pieces left old new
 
--- the text of an `init` or an `act` line; no other line asks for a seal
+-- the text of an `init` or an `act` line; at no other line does a failed seal end a run
 pub data IsActText : List ℕ → Type 0 where
   init : (rest : List ℕ) → IsActText (codes "init " ++ rest)
   act : (rest : List ℕ) → IsActText (codes "act " ++ rest)
 
--- what was written where a seal failed: all pieces before that of a line that asks for one
+-- what was written where a seal failed: all pieces before that of such a line
 pub record StopsAtLine (pieces : List (List ℕ)) (old new : Option (List ℕ)) : Type 0 where
   pub next : List ℕ
   pub acts : IsActText next
@@ -144,7 +144,7 @@ pub record Ends (status : Status) (outcome : Outcome) (old new : Option (List �
   pub end : status ≡ outcome.status
   pub whole : IfSome outcome.pieces (λ pieces. new ≡ append_known old (concat pieces))
 
--- what a run owes that was halted. A failed read comes before the first write, and a seal is asked for by lines alone.
+-- what a run owes that was halted. A failed read comes before the first write, and a failed seal ends a run only at a line.
 abbrev pub Halts : Halt → Outcome → Option (List ℕ) → Option (List ℕ) → Type 0
 Halts halt.Read outcome old new = new ≡ old
 Halts halt.Write outcome old new = IfSome outcome.pieces (λ pieces. WritesFront (concat pieces) old new)

@@ -45,6 +45,6 @@ pub record Stays (cs : List Command) (f : Command) : Type 0 where
   pub one : (a b : List Command) → IsBraidTo cs f a → IsBraidTo cs f b → a ≡ b
   pub kept : (more braid : List Command) → IsClosed (cs ++ more) → IsBraidTo cs f braid ↔ IsBraidTo (cs ++ more) f braid
 
--- The braid under tips is the same after an append.
+-- The braid under tips, which are places of the list, is the same after an append.
 abbrev pub StaysUnder : List Command → List ℕ → Type 0
 StaysUnder cs tips = (more braid : List Command) → IsClosed (cs ++ more) → IsBraidUnder cs tips braid ↔ IsBraidUnder (cs ++ more) tips braid

@@ -22,7 +22,7 @@ pub fn closures_have_one_braid()
     ensures { (commands : List Command) → IsClosed commands → ClosuresHaveOneBraid commands }
 {}
 
-/// What is appended leaves the braid of a command's closure as it was, and that under tips.
+/// What is appended leaves the braid of a command's closure as it was, and that under tips that are places of the list.
 pub fn closures_stay()
     ensures command { (commands : List Command) (command : Command) → IsClosed commands → Contains commands command → Stays commands command }
     ensures tips { (commands : List Command) (tips : List ℕ) → All (λ place. place < length commands) tips → StaysUnder commands tips }

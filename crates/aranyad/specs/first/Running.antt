@@ -69,7 +69,7 @@ rows_text (Some f) rows = flat_map (row_text f) rows
 abbrev pub facts_text : List Item → Name → List Row → List ℕ
 facts_text items name rows = concat (codes "facts " ∷ name ∷ codes ": " ∷ decimal (length rows) ∷ codes "\n" ∷ rows_text (fact_of items) rows ∷ [])
 
--- the lines that may publish a command, and so ask for a seal
+-- the lines that may publish a command, at which alone a failed seal ends a run
 abbrev pub Acts : Line → Type 0
 Acts (Replica a) = ⊥
 Acts (Init a f) = Unit
