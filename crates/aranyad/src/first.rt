@@ -16,6 +16,8 @@ pub mod script;
 mod script_line;
 pub mod script_reader;
 pub mod small;
+mod small_commands;
+mod small_parts;
 mod sound;
 pub mod stop;
 pub mod texts;

@@ -31,9 +31,9 @@ use Rattle.aranyad.specs.declared.first.policy.Bind.{Bind}
 use Rattle.aranyad.specs.declared.first.policy.Check.{Check}
 use Rattle.aranyad.specs.declared.first.policy.Construct.{Construct}
 use Rattle.aranyad.specs.declared.first.policy.Created.{Created}
-use Rattle.aranyad.specs.declared.first.small.FinishParts.{FinishParts}
-use Rattle.aranyad.specs.declared.first.small.Source.{Source}
-use Rattle.aranyad.specs.declared.first.small.Source.TheVariants as source
+use Rattle.aranyad.specs.declared.first.small_commands.FinishParts.{FinishParts}
+use Rattle.aranyad.specs.declared.first.small_parts.Source.{Source}
+use Rattle.aranyad.specs.declared.first.small_parts.Source.TheVariants as source
 use Rattle.aranyad.specs.first.Sound.{Name, is_sound}
 
 -- what each thing of a list is, where each is something

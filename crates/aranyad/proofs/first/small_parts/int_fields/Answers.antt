@@ -1,7 +1,7 @@
 use Rattle.std.proofs.Common.{◌∙◌, sym, arith}
 use Rattle.aranyad.specs.first.Small.{int_field}
 use Rattle.aranyad.proofs.Each.{one_read, one_unread, all_read}
-use Rattle.aranyad.proofs.first.small.int_fields.Goals as goal
+use Rattle.aranyad.proofs.first.small_parts.int_fields.Goals as goal
 
 pub returns-in_default : goal.returns-in_default
 returns-in_default c =

@@ -1,7 +1,7 @@
 use Rattle.std.proofs.Common.{◌∙◌, sym, arith}
 use Rattle.aranyad.specs.first.Small.{bind_of}
 use Rattle.aranyad.proofs.Each.{one_read, one_unread, all_read}
-use Rattle.aranyad.proofs.first.small.binds_of.Goals as goal
+use Rattle.aranyad.proofs.first.small_parts.binds_of.Goals as goal
 
 pub returns-in_default : goal.returns-in_default
 returns-in_default c =
