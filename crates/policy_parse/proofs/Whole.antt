@@ -5,7 +5,6 @@ use Rattle.policy_ast.specs.declared.policy.PlacedItem.{PlacedItem}
 use Rattle.policy_ast.specs.declared.token.Token.{Token}
 use Rattle.policy_ast.specs.declared.part.Part.{Part}
 use Rattle.policy_ast.specs.declared.item.Item.{Item}
-use Rattle.policy_ast.specs.grammar.Parts.{Kinds}
 use Rattle.policy_ast.specs.grammar.Policies.{IsFaultLine, LongestRun, Spells, kinds, max_height, placed}
 use Rattle.policy_ast.specs.grammar.Policies as policies
 use Rattle.policy_ast.proofs.grammar.ItemLaws.{item_found, item_part}

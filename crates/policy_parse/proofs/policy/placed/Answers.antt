@@ -1,4 +1,3 @@
-use Rattle.std.proofs.Common.{sym}
 use Rattle.policy_parse.proofs.Whole.{item_leaves}
 use Rattle.policy_parse.proofs.policy.placed.Goals as goal
 
