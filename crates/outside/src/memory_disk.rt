@@ -62,9 +62,9 @@ fn overwrite(alloc: Global, bytes: &[u8], at: usize, piece: &[u8]) -> Result<Byt
     ensures { IfOk result (λ all. all ≡ overwritten bytes.now at piece.now) }
 {
     let mut all = Bytes::from_slice(alloc, &bytes[..at])?;
-    all.extend(piece)?;
+    all.extend(alloc, piece)?;
     if piece.len() < bytes.len() - at {
-        all.extend(&bytes[at + piece.len()..])?;
+        all.extend(alloc, &bytes[at + piece.len()..])?;
     }
     Ok(all)
 }

@@ -13,6 +13,7 @@ use std::alloc::Global;
 /// A sink that keeps what is written to it. A write fails as planned, and where the bytes find no room.
 #[derive(Drop)]
 pub struct MemorySink {
+    alloc: Global,
     bytes: Bytes,
     schedule: Schedule,
 }
@@ -24,6 +25,7 @@ impl MemorySink {
         ensures plan { sink_plan result ≡ plan_at_start failing.items }
     {
         MemorySink {
+            alloc,
             bytes: Bytes::new(alloc),
             schedule: Schedule::new(failing),
         }
@@ -59,7 +61,7 @@ impl Sink for MemorySink {
             self.schedule.fail();
             return Err(Failed);
         }
-        match self.bytes.extend(piece) {
+        match self.bytes.extend(self.alloc, piece) {
             Ok(()) => Ok(piece.len()),
             Err(_) => {
                 self.schedule.fail();
