@@ -43,6 +43,13 @@ impl Bytes {
         Ok(Bytes { bytes })
     }
 
+    /// The vector of these bytes. Takes no memory.
+    pub fn into_vec(self) -> Vec<u8>
+        ensures { result.items ≡ self }
+    {
+        self.bytes
+    }
+
     pub fn as_slice(&self) -> &[u8]
         ensures { result.now ≡ self.now }
     {
