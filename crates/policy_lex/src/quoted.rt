@@ -40,7 +40,7 @@ fn text_from(alloc: Global, bytes: &[u8]) -> Result<Option<(Bytes, usize)>, NoMe
             Step::Breaks => return Ok(None),
             Step::Escapes => follows_backslash = true,
             Step::Means(meant) => {
-                text.push(meant)?;
+                text.push(alloc, meant)?;
                 follows_backslash = false;
             }
         }
