@@ -1,4 +1,6 @@
 -- The definitions that the contracts of this crate cite.
+pub mod Version
+pub mod Symbols
 pub mod grammar
 pub mod Laws
 pub mod Words
