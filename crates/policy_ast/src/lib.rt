@@ -14,7 +14,9 @@ mod policy;
 mod statement;
 pub mod symbols;
 mod token;
+pub mod token_laws;
 mod variants;
+mod version;
 
 pub use bind::{Bind, Free, Pattern};
 pub use expr::{
@@ -30,3 +32,4 @@ pub use policy::Policy;
 pub use statement::{Arm, ArmPattern, Else, IfStmt, Stmt};
 pub use token::{Token, TokenKind};
 pub use variants::VariantNames;
+pub use version::Version;
