@@ -1,6 +1,6 @@
 -- The symbols of the language, by their text. This is the one list of them: the token of a symbol has its place in it, from 0.
 use Prim.Native.String.{String}
-use Rattle.std.specs.Prelude.{ℕ, List, [], ◌∷◌, codes, Option, option_map}
+use Rattle.std.specs.Prelude.{◌≡◌, ℕ, List, [], ◌∷◌, codes, Option, Some, option_map}
 use Rattle.std.specs.List.{position, position_or_len}
 use Rattle.std.specs.Str.{bytes_eq}
 use Rattle.policy_ast.specs.declared.token.TokenKind.{TokenKind}
@@ -18,6 +18,13 @@ symbols Two =
 abbrev pub symbol_of : Version → List ℕ → Option TokenKind
 symbol_of version text = option_map Symbol (position (bytes_eq text) (symbols version))
 
--- the token of a symbol that a version has
+-- the place of a symbol that a version has, and its token
+abbrev pub place : Version → String → ℕ
+place version text = position_or_len (bytes_eq (codes text)) (symbols version)
+
 abbrev pub symbol : Version → String → TokenKind
-symbol version text = Symbol (position_or_len (bytes_eq (codes text)) (symbols version))
+symbol version text = Symbol (place version text)
+
+-- the symbol of this text has the token of this number
+abbrev pub IsSymbol : Version → String → ℕ → Type 0
+IsSymbol version text number = symbol_of version (codes text) ≡ Some (Symbol number)

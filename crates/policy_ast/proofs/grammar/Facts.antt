@@ -1,9 +1,10 @@
 -- What each form takes of the tokens, and that it begins with no closing symbol.
 use Rattle.std.proofs.Common.{◌≡◌, ◌<◌, ◌≤◌, ◌==◌, ◌||◌, not, Bool, true, false, List, [], ◌∷◌, length, Some, None, if◌then◌else◌, refl, ap, sym, ◌∙◌, arith, true≢false}
 use Rattle.policy_ast.specs.declared.part.Part.{Part}
-use Rattle.policy_ast.specs.declared.symbols.TheConstants as symbols
 use Rattle.policy_ast.specs.declared.token.TokenKind.{TokenKind}
 use Rattle.policy_ast.specs.declared.token.TokenKind.TheVariants as token
+use Rattle.policy_ast.specs.Symbols.{place}
+use Rattle.policy_ast.specs.Version.{Two}
 use Rattle.policy_ast.specs.grammar.Forms as forms
 use Rattle.policy_ast.specs.grammar.Forms.{◌▸◌, ◌◂◌, ◌⊗◌, Chain, Chained, Empty, Listed, ListedMore, Made, Many, ManyMore, Node, Optional}
 use Rattle.policy_ast.specs.grammar.Parts.{Between, Tokens, longer, nothing_yet}
@@ -13,8 +14,8 @@ use Rattle.policy_ast.proofs.grammar.Reading.{after, is_token}
 
 -- a symbol with which no part of a list begins
 abbrev pub is_closing : TokenKind → Bool
-is_closing (token.Symbol s) = (s == symbols.CLOSE_BRACE) || (s == symbols.CLOSE_BRACKET) || (s == symbols.CLOSE_PAREN) || (s == symbols.COLON)
-    || (s == symbols.QUESTION_MARK) || (s == symbols.OPEN_BRACE) || (s == symbols.COMMA)
+is_closing (token.Symbol s) = (s == place Two "}") || (s == place Two "]") || (s == place Two ")") || (s == place Two ":")
+    || (s == place Two "?") || (s == place Two "{") || (s == place Two ",")
 is_closing _ = false
 
 abbrev pub is_open : Tokens → Bool
