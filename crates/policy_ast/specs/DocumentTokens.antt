@@ -55,14 +55,14 @@ abbrev pub tokens_in : Version → List ℕ → BlocksResult → TokensResult
 tokens_in version document (Ok blocks) = blocks_tokens version document blocks
 tokens_in version document (Err fault) = Err fault
 
--- the tokens of the lines behind a front matter, by the version that its key names
-abbrev pub version_tokens : List ℕ → Line → Option Version → List Line → TokensResult
-version_tokens document key None behind = Err (WrongVersion (line_number document key.start))
+-- the tokens of the lines behind a front matter, by the place of its key and the version that this names
+abbrev pub version_tokens : List ℕ → ℕ → Option Version → List Line → TokensResult
+version_tokens document key None behind = Err (WrongVersion (line_number document key))
 version_tokens document key (Some version) behind = tokens_in version document (blocks_from 0 document behind)
 
 abbrev pub tokens_behind : List ℕ → Option FrontMatter → TokensResult
 tokens_behind document None = Err NoFrontMatter
-tokens_behind document (Some front) = version_tokens document front.key front.version front.behind
+tokens_behind document (Some front) = version_tokens document front.key.start front.version front.behind
 
 -- the tokens of a document
 unfoldable pub document_tokens : List ℕ → TokensResult

@@ -1,8 +1,8 @@
 ghost use Rattle.std.specs.Prelude.{◌≡◌, ◌^◌, ◌<◌, ◌≤◌, [], ◌∷◌, ◌++◌, IfOk, IfSome, OnOk, MatchOption, length};
 ghost use Rattle.policy_ast.specs.Fences.{blocks_from};
 ghost use Rattle.policy_lex.specs.Answers.{IsAnswer};
-ghost use Rattle.policy_lex.specs.BlockViews.{AreBlocks, IsPart, blocks_of_part, from_closing, plain_blocks};
-ghost use Rattle.policy_lex.specs.LineViews.{lines_at, seen};
+ghost use Rattle.policy_lex.specs.working.BlockViews.{AreBlocks, IsPart, blocks_of_part, from_closing, plain_blocks};
+ghost use Rattle.policy_lex.specs.working.LineViews.{lines_at, seen};
 
 use crate::LexFault;
 use crate::fences::{backticks, is_closing, is_fence, opens_policy};

@@ -7,7 +7,6 @@ mod document;
 mod fault;
 mod fences;
 mod front_matter;
-mod gaps;
 mod lines;
 mod number;
 mod prefix;
@@ -15,6 +14,7 @@ mod quoted;
 mod spaces;
 mod symbol;
 mod token;
+mod trivia;
 mod word;
 
 pub use document::tokens;

@@ -2,7 +2,7 @@ ghost use Rattle.std.specs.Prelude.{◌≡◌, ◌==◌, ◌^◌, ◌<◌, ◌�
 ghost use Rattle.std.specs.List.{position};
 ghost use Rattle.std.specs.Str.Lines.{strip_carriage_return};
 ghost use Rattle.policy_ast.specs.Lines.{is_line_feed, line_number};
-ghost use Rattle.policy_lex.specs.LineViews.{lines_at, seen};
+ghost use Rattle.policy_lex.specs.working.LineViews.{lines_at, seen};
 
 /// A line: its text, the place where it begins, and the place where what follows it begins.
 #[derive(Clone, Copy)]

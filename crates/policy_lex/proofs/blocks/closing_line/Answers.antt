@@ -1,5 +1,5 @@
 use Rattle.std.proofs.Common.{sym, ◌∙◌, arith}
-use Rattle.policy_lex.specs.LineViews.{seen}
+use Rattle.policy_lex.specs.working.LineViews.{seen}
 use Rattle.policy_lex.proofs.BlockSteps.{closing_found, closing_passed, closing_past}
 use Rattle.policy_lex.proofs.blocks.closing_line.Goals as goal
 

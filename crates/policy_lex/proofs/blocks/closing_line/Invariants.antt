@@ -1,6 +1,6 @@
 use Rattle.std.proofs.Common.{◌≡◌, ◌≤◌, ◌-◌, length}
-use Rattle.policy_lex.specs.BlockViews.{from_closing}
-use Rattle.policy_lex.specs.LineViews.{lines_at}
+use Rattle.policy_lex.specs.working.BlockViews.{from_closing}
+use Rattle.policy_lex.specs.working.LineViews.{lines_at}
 use Rattle.policy_lex.proofs.blocks.closing_line.Given as goal
 
 abbrev pub invariant-loop-place : goal.invariant-loop-place

@@ -1,8 +1,8 @@
 use Rattle.std.proofs.Common.{◌≡◌, ◌≤◌, ◌-◌, length}
 use Rattle.policy_ast.specs.Fences.{blocks_from}
 use Rattle.policy_ast.specs.Lines.{line_number}
-use Rattle.policy_lex.specs.BlockViews.{AreBlocks}
-use Rattle.policy_lex.specs.LineViews.{lines_at}
+use Rattle.policy_lex.specs.working.BlockViews.{AreBlocks}
+use Rattle.policy_lex.specs.working.LineViews.{lines_at}
 use Rattle.policy_lex.proofs.BlockSteps.{with_plain}
 use Rattle.policy_lex.proofs.blocks.policy_blocks.Given as goal
 
