@@ -22,8 +22,8 @@ fn filled(alloc: Global, text: &str, length: usize) -> Result<Bytes, NoMemory> {
     let place = text.iter().rposition(|byte| *byte == b' ').unwrap_or(0);
     let (front, rest) = text.split_at(place);
     let mut bytes = Bytes::from_slice(alloc, front)?;
-    bytes.extend(vec![in alloc; b' '; length.saturating_sub(text.len())]?.as_slice())?;
-    bytes.extend(rest)?;
+    bytes.extend(alloc, vec![in alloc; b' '; length.saturating_sub(text.len())]?.as_slice())?;
+    bytes.extend(alloc, rest)?;
     Ok(bytes)
 }
 
@@ -45,7 +45,7 @@ fn row_words(alloc: Global, row: &Row) -> Result<Vec<Text>, NoMemory> {
 fn row_files(alloc: Global, row: &Row) -> Result<MemoryFiles, NoMemory> {
     let mut files = Vec::new(alloc);
     let mut policy = filled(alloc, row.policy, row.policy_length)?;
-    policy.extend(row.policy_end)?;
+    policy.extend(alloc, row.policy_end)?;
     files.push((Text::from_slice(alloc, "policy")?, policy))?;
     let script = filled(alloc, row.script, row.script_length)?;
     files.push((Text::from_slice(alloc, "script")?, script))?;

@@ -39,7 +39,7 @@ fn text_from(alloc: Global, bytes: &[u8]) -> Result<Option<(Bytes, usize)>, NoMe
             Step::Closes => return Ok(Some((text, place + 1))),
             Step::Breaks => return Ok(None),
             Step::Means { byte, size } => {
-                text.push(byte)?;
+                text.push(alloc, byte)?;
                 place += size;
             }
         }

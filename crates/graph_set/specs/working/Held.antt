@@ -6,7 +6,7 @@ use Rattle.std.proofs.Props.{props}
 use Rattle.command.specs.declared.command.Command.{Command}
 use Rattle.command.specs.Closed.{IsClosed, max_commands}
 use Rattle.command.specs.Kinds.{parents_of}
-use Rattle.command.specs.Propositions.{closed_prop}
+use Rattle.command.specs.working.Propositions.{closed_prop}
 use Rattle.command.specs.Wire.{command_id}
 
 -- each command stands under its own id, and the commands are a closed list that isn't too long
@@ -21,6 +21,10 @@ graph_prop ids commands = hlevel (props, closed_prop commands)
 -- the ids with one more, if it wasn't there
 abbrev pub IsAdded : List (List ℕ) → List ℕ → List (List ℕ) → Type 0
 IsAdded ids one next = (id : List ℕ) → list_any (bytes_eq id) next ≡ (list_any (bytes_eq id) ids || bytes_eq id one)
+
+-- the ids with others more
+abbrev pub AreAdded : List (List ℕ) → List (List ℕ) → List (List ℕ) → Type 0
+AreAdded ids others next = (id : List ℕ) → list_any (bytes_eq id) next ≡ (list_any (bytes_eq id) ids || list_any (bytes_eq id) others)
 
 -- whether a parent of the command is among the ids
 abbrev pub has_parent_among : List (List ℕ) → Command → Bool

@@ -1,7 +1,8 @@
 -- What the steps of the braid's body keep. This serves the contracts of its private functions; what a braid is stands in Braids.
 use Rattle.std.specs.Prelude.{◌≡◌, ℕ, ◌==◌, ◌<◌, ◌⊎◌, ◌↔◌, not, Bool, true, false, List, [], ◌++◌, length, reverse, Option, Some, None, filter}
 use Rattle.std.specs.List.{All, Contains, list_any}
-use Rattle.std.specs.Ordering.{bool_cmp, ordering_then}
+use Rattle.std.specs.Cmp.Lexicographic.{slice_cmp}
+use Rattle.std.specs.Ordering.{bool_cmp, nat_cmp, ordering_then}
 use Rattle.std.specs.Str.{bytes_eq}
 use Rattle.std.specs.declared.cmp.Ordering.{Ordering}
 use Rattle.std.specs.declared.cmp.Ordering.TheVariants.{Less}
@@ -9,10 +10,9 @@ use Rattle.command.specs.declared.command.Command.{Command}
 use Rattle.command.specs.Ancestors.{IsAt, IsParent, IsUnder}
 use Rattle.command.specs.Closed.{place_of}
 use Rattle.command.specs.Each.{EachAfter}
-use Rattle.command.specs.Kinds.{is_merge, parents_of}
+use Rattle.command.specs.Kinds.{is_finalize, is_merge, parents_of, priority_of}
 use Rattle.command.specs.Wire.{command_id}
 use Rattle.braid.specs.Braids.{IsPlaced, picked}
-use Rattle.braid.specs.Lower.{rank_order}
 
 -- the command stands at one of these places
 abbrev pub IsAmong : List Command → List ℕ → Command → Type 0
@@ -36,6 +36,11 @@ pub record AddsWhere (P : List ℕ → Type 0) (cs : List Command) (ids : List (
   pub grown : new ≡ old ++ more
   pub has : (id : List ℕ) (place : ℕ) → Contains ids id → P id → place_of cs id ≡ Some place → Contains new place
   pub only : (place : ℕ) → Contains more place → (id : List ℕ) × Contains ids id × P id × (place_of cs id ≡ Some place)
+
+-- the order of two commands, as the code compares them: ids byte by byte, the second with the first
+abbrev pub rank_order : Command → Command → Ordering
+rank_order x y =
+    ordering_then (bool_cmp (is_finalize x) (is_finalize y)) (ordering_then (nat_cmp (priority_of x) (priority_of y)) (slice_cmp nat_cmp (command_id y) (command_id x)))
 
 -- merges are taken first, and then the lowest
 abbrev pub pick_order : Command → Command → Ordering
