@@ -2,11 +2,12 @@ ghost use Rattle.policy_ast.specs.Laws.{HaveOneReading};
 ghost use Rattle.policy_ast.specs.Symbols.{IsSymbol};
 ghost use Rattle.policy_ast.specs.Version.{Two};
 ghost use Rattle.policy_ast.specs.declared.symbols.TheConstants as symbols;
-ghost use Rattle.policy_ast.specs.grammar.Parts.{Tokens};
+ghost use Rattle.std.specs.Prelude.{List};
+ghost use Rattle.policy_ast.specs.declared.token.Token.{Token};
 
 /// Tokens spell one policy or none, and have one longest run of whole items.
 pub fn tokens_have_one_reading()
-    ensures { (tokens : Tokens) → HaveOneReading tokens }
+    ensures { (tokens : List Token) → HaveOneReading tokens }
 {}
 
 /// Each constant of `symbols` is the place of its symbol in the list of symbols.

@@ -5,7 +5,7 @@ use Rattle.std.proofs.lemmas.Option.{slice_get_cases, slice_get_within}
 use Rattle.policy_ast.specs.declared.item.Item.{Item}
 use Rattle.policy_ast.specs.declared.part.Part.{Part}
 use Rattle.policy_ast.specs.declared.token.Token.{Token}
-use Rattle.policy_ast.specs.grammar.Parts.{Tokens}
+use Rattle.policy_ast.specs.grammar.Parts.{Kinds}
 use Rattle.policy_ast.specs.grammar.Policies.{IsFaultLine, IsRun, LongestRun, Spells, kinds, max_height}
 use Rattle.policy_ast.proofs.grammar.ItemLaws.{item_found, item_shorter}
 use Rattle.policy_ast.proofs.grammar.ReadingItems.{read_item_tree, read_items}
@@ -13,22 +13,22 @@ use Rattle.policy_ast.proofs.grammar.RunLaws.{longest_run, read_is_run, run_leng
 use Rattle.policy_parse.proofs.Turns.{kinds_length}
 
 -- one turn
-pub items_full : (k : ℕ) (found : List Item) (ts : Tokens) → k ≡ 0 → read_items k found ts ≡ (found, ts)
+pub items_full : (k : ℕ) (found : List Item) (ts : Kinds) → k ≡ 0 → read_items k found ts ≡ (found, ts)
 unfolding read_items
 items_full zero found ts is = refl
 items_full (suc k) found ts is = absurd (omega (arith, is))
 
-pub items_end : (k : ℕ) (found : List Item) (ts : Tokens) → None ≡ read_item_tree max_height ts → read_items k found ts ≡ (found, ts)
+pub items_end : (k : ℕ) (found : List Item) (ts : Kinds) → None ≡ read_item_tree max_height ts → read_items k found ts ≡ (found, ts)
 unfolding read_items
 items_end zero found ts ends = refl
 items_end (suc k) found ts ends = rw (sym ends) refl
 
-pub items_go_on : (k next : ℕ) (found : List Item) (ts rest : Tokens) (a : Part Item) → k ≡ next + 1 → Some (a, rest) ≡ read_item_tree max_height ts → read_items k found ts ≡ read_items next (found ++ a.tree ∷ []) rest
+pub items_go_on : (k next : ℕ) (found : List Item) (ts rest : Kinds) (a : Part Item) → k ≡ next + 1 → Some (a, rest) ≡ read_item_tree max_height ts → read_items k found ts ≡ read_items next (found ++ a.tree ∷ []) rest
 unfolding read_items
 items_go_on zero next found ts rest a room reads = absurd (omega (arith, room))
 items_go_on (suc k) next found ts rest a room reads = let e : k ≡ next = omega (arith, room) in rw (sym reads, e) refl
 
-item_length : (ts rest : Tokens) (a : Part Item) → Some (a, rest) ≡ read_item_tree max_height ts → length rest < length ts
+item_length : (ts rest : Kinds) (a : Part Item) → Some (a, rest) ≡ read_item_tree max_height ts → length rest < length ts
 item_length ts rest a reads = item_shorter ts rest a.tree (item_found ts (a.tree, rest) (rw (sym reads) refl))
 
 pub item_leaves : (tokens rest : List Token) (a : Part Item) → Some (a, kinds rest) ≡ read_item_tree max_height (kinds tokens) → length rest < length tokens
@@ -52,7 +52,7 @@ pub whole_spelled : (tokens : List Token) (found : List Item) (rest : List Token
 whole_spelled tokens found rest is none = subst (λ r. IsRun (kinds tokens) (kinds r) found) (nil_from_length rest none) (whole_run tokens found rest is)
 
 spelled_so : (tokens : List Token) (found : List Item) (rest : List Token) → (found, kinds rest) ≡ read_items (length tokens) [] (kinds tokens) → (policy : List Item) → Spells (kinds tokens) policy
-    → ◌≡◌ {A = List Item × Tokens} (found, kinds rest) (policy, [])
+    → ◌≡◌ {A = List Item × Kinds} (found, kinds rest) (policy, [])
 spelled_so tokens found rest is policy spelled = sym (whole_read tokens found rest is) ∙ spelled_is_read (kinds tokens) policy spelled
 
 pub whole_one : (tokens : List Token) (found : List Item) (rest : List Token) → (found, kinds rest) ≡ read_items (length tokens) [] (kinds tokens) → (policy : List Item) → Spells (kinds tokens) policy → found ≡ policy

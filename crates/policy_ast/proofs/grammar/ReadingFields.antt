@@ -6,8 +6,8 @@ use Rattle.policy_ast.specs.declared.field.FieldType.{FieldType}
 use Rattle.policy_ast.specs.declared.field.FieldType.TheVariants as field_type
 use Rattle.policy_ast.specs.declared.literal.Literal.{Literal}
 use Rattle.policy_ast.specs.declared.literal.Literal.TheVariants as literal
-use Rattle.policy_ast.specs.declared.literal.PatternLiteral.{PatternLiteral}
-use Rattle.policy_ast.specs.declared.literal.PatternLiteral.TheVariants as pattern_literal
+use Rattle.policy_ast.specs.declared.pattern.PatternLiteral.{PatternLiteral}
+use Rattle.policy_ast.specs.declared.pattern.PatternLiteral.TheVariants as pattern_literal
 use Rattle.policy_ast.specs.declared.part.Part.{Part}
 use Rattle.policy_ast.specs.declared.token.TokenKind.TheVariants as token
 use Rattle.policy_ast.specs.grammar.Fixed.{path, word}
