@@ -62,19 +62,19 @@ closing_past count document place past = ap (from_closing count) (no_lines docum
 
 -- blocks in front of others
 abbrev pub with_plain : List Block → BlocksResult → BlocksResult
-with_plain front (Ok blocks) = Ok (map plain front ++ blocks)
-with_plain front (Err fault) = Err fault
+with_plain prefix (Ok blocks) = Ok (map plain prefix ++ blocks)
+with_plain prefix (Err fault) = Err fault
 
-pub with_one_more : (front : List Block) (block : Block) (blocks : BlocksResult) → with_plain (front ++ block ∷ []) blocks ≡ with_plain front (with_block (plain block) blocks)
-with_one_more front block (Ok blocks) = ap Ok (ap (λ bs. bs ++ blocks) (map-append plain front (block ∷ [])) ∙ append_assoc (map plain front) (plain block ∷ []) blocks)
-with_one_more front block (Err fault) = refl
+pub with_one_more : (prefix : List Block) (block : Block) (blocks : BlocksResult) → with_plain (prefix ++ block ∷ []) blocks ≡ with_plain prefix (with_block (plain block) blocks)
+with_one_more prefix block (Ok blocks) = ap Ok (ap (λ bs. bs ++ blocks) (map-append plain prefix (block ∷ [])) ∙ append_assoc (map plain prefix) (plain block ∷ []) blocks)
+with_one_more prefix block (Err fault) = refl
 
 pub with_none : (blocks : BlocksResult) → with_plain [] blocks ≡ blocks
 with_none (Ok blocks) = refl
 with_none (Err fault) = refl
 
-pub with_no_more : (front : List Block) → with_plain front (Ok []) ≡ Ok (map plain front)
-with_no_more front = ap Ok (append-nil (map plain front))
+pub with_no_more : (prefix : List Block) → with_plain prefix (Ok []) ≡ Ok (map plain prefix)
+with_no_more prefix = ap Ok (append-nil (map plain prefix))
 
 -- the end of blocks may be later
 pub blocks_until : (document : List ℕ) (place : ℕ) (blocks : List Block) (end later : ℕ) → end ≤ later → AreBlocks document place blocks end → AreBlocks document place blocks later

@@ -96,12 +96,12 @@ no_tokens version document place (c ∷ bytes) empty = absurd (omega (arith, emp
 pub tokens_past : (version : Version) (document : List ℕ) (place to : ℕ) → to ≤ place → tokens_from version document place 0 (slice_range document place to) ≡ Ok []
 tokens_past version document place to past = no_tokens version document place (slice_range document place to) (omega (arith, length-take {A = ℕ}))
 
-pub one_token_more : (front : List Token) (token : Token) (tokens : TokensResult) → with_tokens (front ++ token ∷ []) tokens ≡ with_tokens front (with_tokens (token ∷ []) tokens)
-one_token_more front token (Ok tokens) = ap Ok (append_assoc front (token ∷ []) tokens)
-one_token_more front token (Err fault) = refl
+pub one_token_more : (prefix : List Token) (token : Token) (tokens : TokensResult) → with_tokens (prefix ++ token ∷ []) tokens ≡ with_tokens prefix (with_tokens (token ∷ []) tokens)
+one_token_more prefix token (Ok tokens) = ap Ok (append_assoc prefix (token ∷ []) tokens)
+one_token_more prefix token (Err fault) = refl
 
-pub no_token_more : (front : List Token) → with_tokens front (Ok []) ≡ Ok front
-no_token_more front = ap Ok (append-nil front)
+pub no_token_more : (prefix : List Token) → with_tokens prefix (Ok []) ≡ Ok prefix
+no_token_more prefix = ap Ok (append-nil prefix)
 
 -- one token more takes one byte more, at least
 pub few_more : (tokens : List Token) (token : Token) (place size : ℕ) → length tokens ≤ place → 0 < size → length (tokens ++ token ∷ []) ≤ place + size
@@ -111,20 +111,20 @@ ok_or : List Token → TokensResult → List Token
 ok_or x (Ok y) = y
 ok_or x (Err fault) = x
 
-with_tokens_twice : (front middle : List Token) (tokens : TokensResult) → with_tokens (front ++ middle) tokens ≡ with_tokens front (with_tokens middle tokens)
-with_tokens_twice front middle (Ok tokens) = ap Ok (append_assoc front middle tokens)
-with_tokens_twice front middle (Err fault) = refl
+with_tokens_twice : (prefix middle : List Token) (tokens : TokensResult) → with_tokens (prefix ++ middle) tokens ≡ with_tokens prefix (with_tokens middle tokens)
+with_tokens_twice prefix middle (Ok tokens) = ap Ok (append_assoc prefix middle tokens)
+with_tokens_twice prefix middle (Err fault) = refl
 
-with_tokens_both : (front all : List Token) (first behind : TokensResult) → with_tokens front first ≡ Ok all → with_tokens all behind ≡ with_tokens front (both_tokens first behind)
+with_tokens_both : (prefix all : List Token) (first behind : TokensResult) → with_tokens prefix first ≡ Ok all → with_tokens all behind ≡ with_tokens prefix (both_tokens first behind)
 unfolding ok_or
-with_tokens_both front all (Ok middle) behind is =
-    let same : front ++ middle ≡ all = ap (ok_or []) is in
-    ap (λ ts. with_tokens ts behind) (sym same) ∙ with_tokens_twice front middle behind
-with_tokens_both front all (Err fault) behind is = absurd (cc)
+with_tokens_both prefix all (Ok middle) behind is =
+    let same : prefix ++ middle ≡ all = ap (ok_or []) is in
+    ap (λ ts. with_tokens ts behind) (sym same) ∙ with_tokens_twice prefix middle behind
+with_tokens_both prefix all (Err fault) behind is = absurd (cc)
 
-with_tokens_failed : (front : List Token) (fault : DocumentFault) (first behind : TokensResult) → with_tokens front first ≡ Err fault → with_tokens front (both_tokens first behind) ≡ Err fault
-with_tokens_failed front fault (Ok middle) behind is = absurd (cc)
-with_tokens_failed front fault (Err other) behind is = is
+with_tokens_failed : (prefix : List Token) (fault : DocumentFault) (first behind : TokensResult) → with_tokens prefix first ≡ Err fault → with_tokens prefix (both_tokens first behind) ≡ Err fault
+with_tokens_failed prefix fault (Ok middle) behind is = absurd (cc)
+with_tokens_failed prefix fault (Err other) behind is = is
 
 -- the tokens of blocks, block by block
 pub blocks_more_tokens : (version : Version) (document : List ℕ) (tokens all : List Token) (block : Block) (blocks : List Block) → with_tokens tokens (block_tokens version document (plain block)) ≡ Ok all

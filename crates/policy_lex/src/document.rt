@@ -10,7 +10,7 @@ ghost use Rattle.policy_lex.specs.working.LineViews.{lines_at};
 
 use crate::LexFault;
 use crate::block_tokens::with_block_tokens;
-use crate::blocks::{Block, policy_blocks};
+use crate::blocks::{Block, FoundBlocks, policy_blocks};
 use crate::front_matter::{FrontMatter, front_matter};
 use crate::lines::line_number;
 use policy_ast::{Token, Version};
@@ -76,9 +76,10 @@ fn tokens_from(
     ensures few { IfOk result (λ tokens. length tokens.items ≤ length document.now) }
     ensures slices { IfOk result (λ tokens. All (IsTokenOf version document.now) tokens.items) }
 {
-    match policy_blocks(alloc, document, place) {
-        Ok(blocks) => blocks_tokens(alloc, version, document, blocks.as_slice()),
-        Err(fault) => Err(fault),
+    let FoundBlocks { blocks, open } = policy_blocks(alloc, document, place)?;
+    match open {
+        Some(line) => Err(LexFault::OpenBlock(line)),
+        None => blocks_tokens(alloc, version, document, blocks.as_slice()),
     }
 }
 

@@ -1,5 +1,5 @@
 -- Blocks as the code finds them.
-use Rattle.std.specs.Prelude.{◌≡◌, ℕ, ◌<◌, ◌≤◌, ⊤, not, List, [], ◌∷◌, length, drop, map, Result, Ok, Err}
+use Rattle.std.specs.Prelude.{◌≡◌, ℕ, ◌<◌, ◌≤◌, ⊤, not, List, [], ◌∷◌, length, drop, map, Option, Some, None, Ok, Err}
 use Rattle.std.specs.List.{take_while}
 use Rattle.policy_ast.specs.DocumentFault.{OpenBlock}
 use Rattle.policy_ast.specs.Fences.{BlocksResult, PolicyBlock, blocks_from, is_closing, with_block}
@@ -8,15 +8,15 @@ use Rattle.policy_lex.specs.working.LineViews.{lines_at}
 use Rattle.policy_lex.specs.declared.blocks.Block.{Block}
 use Rattle.policy_lex.specs.declared.blocks.Part.{Part}
 use Rattle.policy_lex.specs.declared.blocks.Part.TheVariants as part
-use Rattle.policy_lex.specs.declared.fault.LexFault.{LexFault}
 
 -- a block without its line
 abbrev pub plain : Block → PolicyBlock
 plain block = record { from = block.from; to = block.to }
 
-abbrev pub plain_blocks : Result (List Block) LexFault → Result (List PolicyBlock) LexFault
-plain_blocks (Ok blocks) = Ok (map plain blocks)
-plain_blocks (Err fault) = Err fault
+-- blocks, where the document doesn't end in one that this line opens
+abbrev pub plain_blocks : Option ℕ → List Block → BlocksResult
+plain_blocks None blocks = Ok (map plain blocks)
+plain_blocks (Some line) blocks = Err (OpenBlock line)
 
 -- a block stands behind a place of the document, with the number of the line where it begins
 pub record IsBlock (document : List ℕ) (place : ℕ) (block : Block) : Type 0 where
