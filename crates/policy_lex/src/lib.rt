@@ -19,4 +19,5 @@ mod word;
 
 pub use document::tokens;
 pub use fault::LexFault;
+pub use lines::{line_end, without_carriage_return};
 pub use number::number_at;

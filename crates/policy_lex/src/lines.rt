@@ -36,7 +36,7 @@ pub fn line_at(document: &[u8], place: usize) -> Line<'_>
 }
 
 /// A line without the carriage return at its end, if it has one.
-fn without_carriage_return(line: &[u8]) -> &[u8]
+pub fn without_carriage_return(line: &[u8]) -> &[u8]
     ensures { result.now ≡ strip_carriage_return line.now }
 {
     if line.last() == Some(&b'\r') {
@@ -47,7 +47,7 @@ fn without_carriage_return(line: &[u8]) -> &[u8]
 }
 
 /// The place of the first line feed.
-fn line_end(text: &[u8]) -> Option<usize>
+pub fn line_end(text: &[u8]) -> Option<usize>
     ensures place { result ≡ position is_line_feed text.now }
     ensures within { IfSome result (λ end. end < length text.now) }
 {
