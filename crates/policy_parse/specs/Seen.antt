@@ -1,7 +1,6 @@
 -- What the readers answer, as contracts see it: what was read, and the kinds of the tokens that are left.
 use Rattle.std.specs.Prelude.{List, Option, option_map}
 use Rattle.std.specs.Borrow.{Bor}
-use Rattle.policy_ast.specs.declared.item.Item.{Item}
 use Rattle.policy_ast.specs.declared.part.Part.{Part}
 use Rattle.policy_ast.specs.declared.token.Token.{Token}
 use Rattle.policy_ast.specs.grammar.Parts.{Kinds, part}
@@ -24,7 +23,3 @@ operator_seen found = option_map (λ p. (p.0, kinds p.1.now)) found
 -- fixed tokens
 abbrev pub fixed_seen : Option (Bor (List Token)) → Option (Part Unit × Kinds)
 fixed_seen found = option_map (λ rest. (part tt 0, kinds rest.now)) found
-
--- items, and the kinds of the tokens that are left
-abbrev pub run_seen : List Item × Bor (List Token) → List Item × Kinds
-run_seen run = (run.0, kinds run.1.now)

@@ -6,6 +6,7 @@ use Rattle.policy_ast.specs.declared.token.TokenKind.TheVariants as token
 use Rattle.policy_ast.specs.grammar.Expressions.{Level, conditional, operand, whole}
 use Rattle.policy_ast.specs.grammar.Fixed.{and, arrow, close_brace, close_bracket, close_paren, colon, comma, comparison_token, dot, open_brace, open_paren, or, path, word}
 use Rattle.policy_ast.specs.grammar.Parts.{Kinds}
+use Rattle.policy_ast.specs.Version.{Two}
 use Rattle.policy_ast.specs.Words.{is_name, is_reserved}
 use Rattle.policy_ast.proofs.grammar.FieldLaws.{not_word}
 use Rattle.policy_ast.proofs.grammar.Laws.{Always}
@@ -59,7 +60,7 @@ ends_whole h ts paren names brace value field compared is also either =
     (either, (also, low, low), (also, low, low))
 
 -- a name may follow the whole
-pub ends_before_name : (is_head : Bool) (text : List ℕ) → is_name text ≡ true → (ts : Kinds) → EndsWhole is_head (token.Word text ∷ ts)
+pub ends_before_name : (is_head : Bool) (text : List ℕ) → is_name Two text ≡ true → (ts : Kinds) → EndsWhole is_head (token.Word text ∷ ts)
 unfolding is_reserved
 ends_before_name h text named ts = ends_whole h (token.Word text ∷ ts) refl refl refl refl refl refl (not_word "is" refl text named ts) refl refl
 

@@ -19,6 +19,7 @@ use Rattle.policy_ast.specs.grammar.Forms.{◌▸◌, ◌⊗◌, Empty, Made, No
 use Rattle.policy_ast.specs.grammar.Parts.{Nonterminal, Kinds, part}
 use Rattle.policy_ast.specs.grammar.Patterns as patterns
 use Rattle.policy_ast.specs.grammar.Patterns.{IsPatternLiteral}
+use Rattle.policy_ast.specs.Version.{Two}
 use Rattle.policy_ast.specs.Words.{is_name, is_reserved}
 use Rattle.policy_ast.proofs.grammar.Facts.{AreParts, LeavesTail, parts_tail, behind_parts, behind_tail, empty_tail, made_parts, made_tail, node_tail, optional_tail, pair_parts}
 use Rattle.policy_ast.proofs.grammar.Tails.{IsTail}
@@ -27,12 +28,12 @@ use Rattle.policy_ast.proofs.grammar.Reading.{Reader, after, behind, making, not
 use Rattle.policy_ast.proofs.grammar.ReadingFields.{named, read_constant, read_effect_field, read_field, read_literal, read_name, read_number, read_pattern_literal, read_type, read_variant, type_over}
 
 -- Name
-pub name_then : {P : Type 0} (ts : Kinds) (p : Part (List ℕ) × Kinds) → read_name ts ≡ Some p → ((text : List ℕ) (rest : Kinds) → is_name text ≡ true → ts ≡ token.Word text ∷ rest → (part text 0, rest) ≡ p → P) → P
+pub name_then : {P : Type 0} (ts : Kinds) (p : Part (List ℕ) × Kinds) → read_name ts ≡ Some p → ((text : List ℕ) (rest : Kinds) → is_name Two text ≡ true → ts ≡ token.Word text ∷ rest → (part text 0, rest) ≡ p → P) → P
 name_then [] p is go = absurd (cc)
 name_then (token.Number n ∷ ts) p is go = absurd (cc)
 name_then (token.Quoted q ∷ ts) p is go = absurd (cc)
 name_then (token.Symbol s ∷ ts) p is go = absurd (cc)
-name_then (token.Word text ∷ ts) p is go = if_then (is_name text) (part text 0, ts) p is (λ named e. go text ts named refl e)
+name_then (token.Word text ∷ ts) p is go = if_then (is_name Two text) (part text 0, ts) p is (λ named e. go text ts named refl e)
 
 pub name_is_read : {limit : ℕ} → IsRead IsName IsName read_name limit Always
 name_is_read = record {
@@ -47,11 +48,11 @@ pub name_parts : AreParts IsName
 name_parts ts rest a (fields.name is) = record { tail = IsTail.behind IsTail.all; shorter = omega arith; opens = refl }
 
 -- a name isn't a word that is reserved
-pub not_word : (reserved : String) → is_name (codes reserved) ≡ false → (text : List ℕ) → is_name text ≡ true → (ts : Kinds) → after (word reserved) (token.Word text ∷ ts) ≡ None
+pub not_word : (reserved : String) → is_name Two (codes reserved) ≡ false → (text : List ℕ) → is_name Two text ≡ true → (ts : Kinds) → after (word reserved) (token.Word text ∷ ts) ≡ None
 not_word reserved is text named ts = still_not (codes reserved) text (bytes_eq (codes reserved) text) refl is named ts
   where
-    still_not : (a b : List ℕ) (same : Bool) → bytes_eq a b ≡ same → is_name a ≡ false → is_name b ≡ true → (ts : Kinds) → (if same then Some ts else None) ≡ None
-    still_not a b true same not named ts = absurd (true≢false (sym named ∙ ap is_name (sym ((bytes_eq-Decides a b).0 same)) ∙ not))
+    still_not : (a b : List ℕ) (same : Bool) → bytes_eq a b ≡ same → is_name Two a ≡ false → is_name Two b ≡ true → (ts : Kinds) → (if same then Some ts else None) ≡ None
+    still_not a b true same not named ts = absurd (true≢false (sym named ∙ ap (is_name Two) (sym ((bytes_eq-Decides a b).0 same)) ∙ not))
     still_not a b false same not named ts = refl
 
 -- what is found behind a name, or by another reading

@@ -20,6 +20,7 @@ use Rattle.policy_ast.specs.grammar.Forms as forms
 use Rattle.policy_ast.specs.grammar.Forms.{◌▸◌, ◌◂◌, ◌⊗◌, Chained, Empty, Listed, Made, Many, Node, Optional}
 use Rattle.policy_ast.specs.grammar.Parts.{Nonterminal, Kinds, made_both, part}
 use Rattle.policy_ast.specs.grammar.Patterns.{PatternOver}
+use Rattle.policy_ast.specs.Version.{Two}
 use Rattle.policy_ast.specs.Words.{is_name, is_reserved}
 use Rattle.policy_ast.proofs.grammar.Ends.{Ends, NoBrace, EndsPattern, EndsPrimary, EndsWhole, before_close_paren, before_comma}
 use Rattle.policy_ast.proofs.grammar.Facts.{AreParts}
@@ -103,7 +104,7 @@ module _ (Below Below' : Level → Nonterminal Expr) (below : Level → Reader E
   braced_reads true text ts ends = fits (suc limit) (expr.Name text) 0 ts (omega arith)
   braced_reads false text ts ends = rw ends (fits (suc limit) (expr.Name text) 0 ts (omega arith))
 
-  fields_read : (h : Bool) → h ≡ false → (text : List ℕ) → is_name text ≡ true → (ts rest : Kinds) (b : Part (List (Bind Expr))) → Listed (BindOver Below) close_brace ts rest b → b.height ≤ limit
+  fields_read : (h : Bool) → h ≡ false → (text : List ℕ) → is_name Two text ≡ true → (ts rest : Kinds) (b : Part (List (Bind Expr))) → Listed (BindOver Below) close_brace ts rest b → b.height ≤ limit
       → primary_over below limit h (token.Word text ∷ open_brace ∷ ts) ≡ Some (part (expr.Struct text b.tree) (max 0 b.height + 1), rest)
   fields_read true never text is ts rest b x low = absurd (true≢false never)
   fields_read false unheaded text is ts rest b x low = rw (is, binds.reads ts rest b x low tt) (fits (suc limit) (expr.Struct text b.tree) (max 0 b.height) rest (omega (arith, low)))
@@ -186,7 +187,7 @@ module _ (Below Below' : Level → Nonterminal Expr) (below : Level → Reader E
   }
 
   -- no primary begins with a sign
-  name_unsigned : (text : List ℕ) → is_name text ≡ true → (ts : Kinds) → operator sign_token signs (token.Word text ∷ ts) ≡ None
+  name_unsigned : (text : List ℕ) → is_name Two text ≡ true → (ts : Kinds) → operator sign_token signs (token.Word text ∷ ts) ≡ None
   unfolding is_reserved
   name_unsigned text is ts = rw (not_word "unwrap" refl text is ts, not_word "check_unwrap" refl text is ts) refl
 

@@ -12,11 +12,12 @@ use Rattle.policy_ast.specs.declared.part.Part.{Part}
 use Rattle.policy_ast.specs.declared.token.TokenKind.TheVariants as token
 use Rattle.policy_ast.specs.grammar.Fixed.{path, word}
 use Rattle.policy_ast.specs.grammar.Parts.{part}
+use Rattle.policy_ast.specs.Version.{Two}
 use Rattle.policy_ast.specs.Words.{is_name}
 use Rattle.policy_ast.proofs.grammar.Reading.{Reader, behind, chosen, making, noded, nothing, on, optional, pair, paired, read_empty}
 
 abbrev pub read_name : Reader (List ℕ)
-read_name (token.Word text ∷ ts) = if is_name text then Some (part text 0, ts) else None
+read_name (token.Word text ∷ ts) = if is_name Two text then Some (part text 0, ts) else None
 read_name _ = None
 
 abbrev pub read_number : Reader ℤ

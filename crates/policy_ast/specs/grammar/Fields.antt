@@ -11,11 +11,12 @@ use Rattle.policy_ast.specs.declared.token.TokenKind.TheVariants as token
 use Rattle.policy_ast.specs.grammar.Fixed.{path, word}
 use Rattle.policy_ast.specs.grammar.Forms.{◌▸◌, ◌⊗◌, Empty, Made, Node, Optional}
 use Rattle.policy_ast.specs.grammar.Parts.{Nonterminal, Kinds, part}
+use Rattle.policy_ast.specs.Version.{Two}
 use Rattle.policy_ast.specs.Words.{is_name}
 
 -- Name: a word that isn't reserved
 pub data IsName : Kinds → Kinds → Part (List ℕ) → Type 0 where
-  name : {rest : Kinds} {text : List ℕ} → IsTrue (is_name text) → IsName (token.Word text ∷ rest) rest (part text 0)
+  name : {rest : Kinds} {text : List ℕ} → IsTrue (is_name Two text) → IsName (token.Word text ∷ rest) rest (part text 0)
 
 -- Number
 pub data IsNumber : Kinds → Kinds → Part ℤ → Type 0 where
