@@ -8,7 +8,7 @@ use Rattle.std.specs.Io.KnownBytes.{append_known}
 use Rattle.sha2.specs.Sha256.{sha256}
 use Rattle.outside.specs.Files.{Holding}
 use Rattle.policy_ast.specs.DocumentFault.{DocumentFault, NotUtf8, NoFrontMatter, WrongVersion, OpenBlock, BadToken}
-use Rattle.policy_ast.specs.DocumentTokens.{Tokens, document_tokens}
+use Rattle.policy_ast.specs.DocumentTokens.{TokensResult, document_tokens}
 use Rattle.policy_ast.specs.declared.policy.PlacedItem.{PlacedItem}
 use Rattle.policy_ast.specs.declared.token.Token.{Token}
 use Rattle.policy_ast.specs.grammar.Policies.{IsFaultLine, Spells}
@@ -96,7 +96,7 @@ module _ (told : Option Tagging) (document : List ℕ) (script : Option (Option 
   parse_outcome (Ok items) = policy_outcome (small_policy (trees_of items))
 
   -- its tokens are judged before that
-  abbrev pub RunsTokens : Tokens → Outcome → Type 0
+  abbrev pub RunsTokens : TokensResult → Outcome → Type 0
   RunsTokens (Err fault) outcome = outcome ≡ refused status.PolicyRefused (fault_line fault)
   RunsTokens (Ok tokens) outcome = (parse : Result (List PlacedItem) ℕ) × IsParse tokens parse × (outcome ≡ parse_outcome parse)
 

@@ -10,4 +10,5 @@ pub mod Spaces
 pub mod FrontMatter
 pub mod Fences
 pub mod TokenForms
+pub mod TokenLaws
 pub mod DocumentTokens

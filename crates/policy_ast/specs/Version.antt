@@ -1,3 +1,3 @@
 -- The version of the policy language that a document is written in, which its front matter names.
-pub data Version : Type 0 where
-  Two : Version
+pub use Rattle.policy_ast.specs.declared.version.Version.{Version}
+pub use Rattle.policy_ast.specs.declared.version.Version.TheVariants.{Two}

@@ -15,7 +15,9 @@ mod policy;
 mod statement;
 pub mod symbols;
 mod token;
+pub mod token_laws;
 mod variants;
+mod version;
 
 pub use bind::Bind;
 pub use expr::{
@@ -32,3 +34,4 @@ pub use policy::{PlacedItem, Policy};
 pub use statement::{Arm, Else, IfStmt, Stmt};
 pub use token::{Token, TokenKind};
 pub use variants::VariantNames;
+pub use version::Version;

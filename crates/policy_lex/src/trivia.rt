@@ -1,13 +1,13 @@
 ghost use Rattle.std.specs.Prelude.{◌≡◌, ◌<◌, ◌≤◌, IfSome, length, not};
 ghost use Rattle.std.specs.List.{take_while};
 ghost use Rattle.policy_ast.specs.Lines.{is_line_feed};
-ghost use Rattle.policy_ast.specs.TokenForms.{block_comment_at, comment_end, gap_at, line_comment_at, separator_at};
+ghost use Rattle.policy_ast.specs.TokenForms.{block_comment_at, comment_end, trivia_at, line_comment_at, separator_at};
 
 use crate::prefix::behind;
 
-/// How many bytes that part tokens stand in front: a separator or a comment.
-pub fn gap_at(bytes: &[u8]) -> Option<usize>
-    ensures value { result ≡ gap_at bytes.now }
+/// How many bytes of trivia bytes begin with: a separator or a comment.
+pub fn trivia_at(bytes: &[u8]) -> Option<usize>
+    ensures value { result ≡ trivia_at bytes.now }
     ensures some { IfSome result (λ size. 0 < size) }
     ensures within { IfSome result (λ size. size ≤ length bytes.now) }
 {

@@ -1,7 +1,7 @@
 use Rattle.std.proofs.Common.{◌≡◌, ◌+◌, ap, sym, ◌∙◌, arith, Some}
 use Rattle.policy_lex.proofs.Comments.{comment_ended, comment_passed, comment_left_open}
 use Rattle.policy_lex.proofs.Drops.{dropped_whole}
-use Rattle.policy_lex.proofs.gaps.comment_end.Goals as goal
+use Rattle.policy_lex.proofs.trivia.comment_end.Goals as goal
 
 pub returns-then-starts_with-clause-value : goal.returns-then-starts_with-clause-value
 returns-then-starts_with-clause-value c =

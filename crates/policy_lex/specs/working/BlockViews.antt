@@ -1,23 +1,22 @@
 -- Blocks as the code finds them.
-use Rattle.std.specs.Prelude.{◌≡◌, ℕ, ◌<◌, ◌≤◌, ⊤, not, List, [], ◌∷◌, length, drop, map, Result, Ok, Err}
+use Rattle.std.specs.Prelude.{◌≡◌, ℕ, ◌<◌, ◌≤◌, ⊤, not, List, [], ◌∷◌, length, drop, map, Option, Some, None, Ok, Err}
 use Rattle.std.specs.List.{take_while}
 use Rattle.policy_ast.specs.DocumentFault.{OpenBlock}
-use Rattle.policy_ast.specs.Fences.{Blocks, blocks_from, is_closing, with_block}
-use Rattle.policy_ast.specs.Fences.{Block as PlainBlock}
+use Rattle.policy_ast.specs.Fences.{BlocksResult, PolicyBlock, blocks_from, is_closing, with_block}
 use Rattle.policy_ast.specs.Lines.{Line, line_number}
-use Rattle.policy_lex.specs.LineViews.{lines_at}
+use Rattle.policy_lex.specs.working.LineViews.{lines_at}
 use Rattle.policy_lex.specs.declared.blocks.Block.{Block}
 use Rattle.policy_lex.specs.declared.blocks.Part.{Part}
 use Rattle.policy_lex.specs.declared.blocks.Part.TheVariants as part
-use Rattle.policy_lex.specs.declared.fault.LexFault.{LexFault}
 
 -- a block without its line
-abbrev pub plain : Block → PlainBlock
+abbrev pub plain : Block → PolicyBlock
 plain block = record { from = block.from; to = block.to }
 
-abbrev pub plain_blocks : Result (List Block) LexFault → Result (List PlainBlock) LexFault
-plain_blocks (Ok blocks) = Ok (map plain blocks)
-plain_blocks (Err fault) = Err fault
+-- blocks, where the document doesn't end in one that this line opens
+abbrev pub plain_blocks : Option ℕ → List Block → BlocksResult
+plain_blocks None blocks = Ok (map plain blocks)
+plain_blocks (Some line) blocks = Err (OpenBlock line)
 
 -- a block stands behind a place of the document, with the number of the line where it begins
 pub record IsBlock (document : List ℕ) (place : ℕ) (block : Block) : Type 0 where
@@ -36,7 +35,7 @@ abbrev pub from_closing : ℕ → List Line → List Line
 from_closing count lines = drop (length (take_while (λ line. not (is_closing count line.text)) lines)) lines
 
 -- the blocks from a line on, by what begins with it
-abbrev pub blocks_of_part : List ℕ → Line → Part → Blocks
+abbrev pub blocks_of_part : List ℕ → Line → Part → BlocksResult
 blocks_of_part document line (part.Block from to next) = with_block (record { from = from; to = to }) (blocks_from 0 document (lines_at document next))
 blocks_of_part document line (part.Other next) = blocks_from 0 document (lines_at document next)
 blocks_of_part document line part.Open = Err (OpenBlock (line_number document line.start))
