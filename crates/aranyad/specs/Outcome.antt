@@ -122,7 +122,7 @@ pub record WritesUpTo (pieces left : List (List ℕ)) (old new : Option (List �
   pub whole : done ++ left ≡ pieces
   pub added : new ≡ append_known old (concat done)
 
--- what was written where memory was wanting: whole pieces
+-- what was written where the run was out of memory: whole pieces
 pub record StopsBetween (pieces : List (List ℕ)) (old new : Option (List ℕ)) : Type 0 where
   pub left : List (List ℕ)
   pub so_far : WritesUpTo pieces left old new
