@@ -1,0 +1,4 @@
+mod Lists
+mod Pasts
+mod Others
+mod Moves
