@@ -88,9 +88,14 @@ module _ {T X O : Type 0} (k : Told T X O) (origin : O) where
       let v : V = me.0 in
       let f = r.seats id v at in
       exchanged n old (old + 1) (λ c. (w : V) × (a : Act (Option T)) × Valid s.homes me.1 a × Rule (stepped s 2 c id me.1 w a) × numbering k (step slots 2 old (old + 1) none) me n (w, carried_after me.1 a))
-        (λ hit. (numbered v old, keeps, tt, number_drawn s r old id v (sym is ∙ hit) few at,
-          ((λ _. (ap (λ (j : ℕ). (numbered v j, me.1)) (sym hit), (λ i. let less = f.known n i in omega arith), unseen k.caller v.mine.numbers n v.mine.seen r.history (r.fresh n (omega arith)) f.mine)), (λ ne. absurd (ne hit)))))
-        (λ miss. (v, keeps, tt, unchanged s 2 id v r at, ((λ e. absurd (miss e)), (λ _. refl))))
+      (λ hit. (
+        numbered v old,
+        keeps,
+        tt,
+        number_drawn s r old id v (sym is ∙ hit) few at,
+        ((λ _. (ap (λ (j : ℕ). (numbered v j, me.1)) (sym hit), (λ i. let less = f.known n i in omega arith), unseen k.caller v.mine.numbers n v.mine.seen r.history (r.fresh n (omega arith)) f.mine)), (λ ne. absurd (ne hit))),
+      ))
+      (λ miss. (v, keeps, tt, unchanged s 2 id v r at, ((λ e. absurd (miss e)), (λ _. refl))))
 
   -- a seat that has drawn a ticket
   own_ticket : (s : St) (r : Rule s) (old id number : ℕ) (v : V) → r.tickets ≡ old → v.inside ≡ false → IsIn number v.mine.numbers → get_elem? s.views id ≡ some v
@@ -112,9 +117,9 @@ module _ {T X O : Type 0} (k : Told T X O) (origin : O) where
   ticket_served : (s : St) (r : Rule s) (old id : ℕ) (v : V) → r.tickets ≡ old → v.ticket ≡ None → get_elem? s.views id ≡ some v → (t : ℕ) → r.turns ≤ t → t < old + 1
       → Holds (set s.views id (with_ticket v old)) (put r.holder old id t) t
   ticket_served s r old id v is without at t le lt = dite (ℕ_discrete t old)
-    (λ e. (with_ticket v old, ap (λ (i : ℕ). get_elem? (set s.views id (with_ticket v old)) i) (put_here r.holder old id t e) ∙ set_here s.views id (with_ticket v old) (at_below s.views id v at), ap (λ (n : ℕ). Some n) (sym e)))
-    (λ ne. subst (λ (j : ℕ). Holds (set s.views id (with_ticket v old)) j t) (sym (put_else r.holder old id t ne))
-        (served_else s.views id v (with_ticket v old) (r.holder t) t at (λ e. none-some t (sym without ∙ e)) (r.served t le (omega arith))))
+      (λ e. (with_ticket v old, ap (λ (i : ℕ). get_elem? (set s.views id (with_ticket v old)) i) (put_here r.holder old id t e) ∙ set_here s.views id (with_ticket v old) (at_below s.views id v at), ap (λ (n : ℕ). Some n) (sym e)))
+      (λ ne. subst (λ (j : ℕ). Holds (set s.views id (with_ticket v old)) j t) (sym (put_else r.holder old id t ne))
+      (served_else s.views id v (with_ticket v old) (r.holder t) t at (λ e. none-some t (sym without ∙ e)) (r.served t le (omega arith))))
 
   ticket_drawn : (s : St) (r : Rule s) (old id number : ℕ) (v : V) → r.tickets ≡ old → v.ticket ≡ None → v.inside ≡ false → IsIn number v.mine.numbers → old + 1 < 2 ^ 64 → get_elem? s.views id ≡ some v
       → Rule record { words = set s.words 0 (old + 1); homes = s.homes; views = set s.views id (with_ticket v old) }
@@ -146,9 +151,14 @@ module _ {T X O : Type 0} (k : Told T X O) (origin : O) where
       let is : n ≡ r.tickets = ap (λ ws. slice_index ws 0) r.words in
       let v : V = me.0 in
       exchanged n old (old + 1) (λ c. (w : V) × (a : Act (Option T)) × Valid s.homes me.1 a × Rule (stepped s 0 c id me.1 w a) × ticketing k (step slots 0 old (old + 1) none) me n (w, carried_after me.1 a))
-        (λ hit. (with_ticket v old, keeps, tt, ticket_drawn s r old id number v (sym is ∙ hit) without outside has few at,
-          ((λ _. ap (λ (j : ℕ). (with_ticket v j, me.1)) (sym hit)), (λ ne. absurd (ne hit)))))
-        (λ miss. (v, keeps, tt, unchanged s 0 id v r at, ((λ e. absurd (miss e)), (λ _. refl))))
+      (λ hit. (
+        with_ticket v old,
+        keeps,
+        tt,
+        ticket_drawn s r old id number v (sym is ∙ hit) without outside has few at,
+        ((λ _. ap (λ (j : ℕ). (with_ticket v j, me.1)) (sym hit)), (λ ne. absurd (ne hit))),
+      ))
+      (λ miss. (v, keeps, tt, unchanged s 0 id v r at, ((λ e. absurd (miss e)), (λ _. refl))))
 
   -- a seat that has taken the value
   own_take : (s : St) (r : Rule s) (id : ℕ) (v : V) (y : T) → r.holder r.turns ≡ id → v.ticket ≡ Some r.turns → IsKept k origin r.history r.idle y → get_elem? s.views id ≡ some v
@@ -211,17 +221,21 @@ module _ {T X O : Type 0} (k : Told T X O) (origin : O) where
       let y = there.0 in
       let holds : r.holder r.turns ≡ id = ap r.holder come ∙ (f.ticketed t has).2 in
       let has_it : me.0.ticket ≡ Some r.turns = has ∙ ap (λ (n : ℕ). Some n) (sym come) in
-      let less : r.turns < r.tickets = (f.ticketed r.turns has_it).1 in
-      (inside_view me.0 (k.turns y) (k.idle y), takes 0 (Some y), ap (λ hs. get_elem? hs 0) there.1, value_taken s r id (slice_index s.words 1) me.0 y is out holds has_it less there.1 there.2 at,
-        (λ t' e. ((λ _. take_told s r id me y less there.2 at), (λ ne. absurd (ne (is ∙ come ∙ same_Some t t' (sym has ∙ e)))))))
+      let less : r.turns < r.tickets = (f.ticketed r.turns has_it).1 in (
+        inside_view me.0 (k.turns y) (k.idle y),
+        takes 0 (Some y),
+        ap (λ hs. get_elem? hs 0) there.1,
+        value_taken s r id (slice_index s.words 1) me.0 y is out holds has_it less there.1 there.2 at,
+        (λ t' e. ((λ _. take_told s r id me y less there.2 at), (λ ne. absurd (ne (is ∙ come ∙ same_Some t t' (sym has ∙ e)))))),
+      )
 
   pub look_allowed : (slots id t : ℕ) (me : M) → me.0.ticket ≡ Some t → me.0.inside ≡ false → Allows Rule slots id me 1 (λ n. n) (looking k (step slots 1 0 0 none) me)
   look_allowed slots id t me has outside s r len at small =
       let n : ℕ = slice_index s.words 1 in
       let is : n ≡ r.turns = ap (λ ws. slice_index ws 1) r.words in
       dite (ℕ_discrete n t)
-        (λ e. look_home slots id t me s r r.out refl has outside at is (sym is ∙ e))
-        (λ ne. (me.0, keeps, tt, unchanged s 1 id me.0 r at, (λ t' e. ((λ e'. absurd (ne (e' ∙ same_Some t' t (sym e ∙ has)))), (λ _. refl)))))
+      (λ e. look_home slots id t me s r r.out refl has outside at is (sym is ∙ e))
+      (λ ne. (me.0, keeps, tt, unchanged s 1 id me.0 r at, (λ t' e. ((λ e'. absurd (ne (e' ∙ same_Some t' t (sym e ∙ has)))), (λ _. refl)))))
 
   -- a seat that has ended its turn
   own_release : (s : St) (r : Rule s) (id : ℕ) (v : V) (y : T) (more : List X) → k.turns y ≡ r.history ++ more → v.other.numbers ≡ [] → get_elem? s.views id ≡ some v
@@ -279,10 +293,14 @@ module _ {T X O : Type 0} (k : Told T X O) (origin : O) where
   release_allowed slots id n me y carried inside alone has adds opens_is s r len at small =
       let in_turn = (r.seats id me.0 at).inside inside in
       let adds_to : AddsOne k.caller k.before n r.history r.idle (k.turns y) (k.idle y) = subst (λ (z : List X × ℕ). AddsOne k.caller k.before n z.0 z.1 (k.turns y) (k.idle y)) (λ i. (in_turn.2 i, in_turn.3 i)) adds in
-      let g = grown k.caller k.before n r.history r.idle (k.turns y) (k.idle y) adds_to in
-      (left_view me.0 (k.turns y), gives, tt, value_released s r id n me.0 me.1 y carried inside alone has g opens_is at,
+      let g = grown k.caller k.before n r.history r.idle (k.turns y) (k.idle y) adds_to in (
+        left_view me.0 (k.turns y),
+        gives,
+        tt,
+        value_released s r id n me.0 me.1 y carried inside alone has g opens_is at,
         (λ y' e. let same : y ≡ y' = same_Some y y' (ap (λ (p : ℕ × Option T). p.1) (cons_same (0, Some y) (0, Some y') [] [] (sym carried ∙ e)).0) in
-          λ i. (left_view me.0 (k.turns (same i)), ap (λ l. rest l) carried i)))
+            λ i. (left_view me.0 (k.turns (same i)), ap (λ l. rest l) carried i)),
+      )
 
   -- a new seat
   own_split : (s : St) (r : Rule s) (id : ℕ) (v : V) → get_elem? s.views id ≡ some v → In r (length s.views) (split_view v)
@@ -380,7 +398,7 @@ module _ {T X O : Type 0} (k : Told T X O) (origin : O) where
     served = λ t le lt. served_else (set s.views id (joined v w)) other w spent_view (r.holder t) t there_now (λ e. none-some t (sym without ∙ e)) (served_stay s.views id v (joined v w) (r.holder t) t at refl (r.served t le lt));
     seats = seats_stay (λ by d. Joined r id other by d) (set s.views id (joined v w)) other spent_view (spent_join s r id other w outside there)
         (λ by d apart d_there. seats_stay (λ j x. j ≢ other → Joined r id other j x) s.views id (joined v w) (λ _. own_join s r id other v w ne at there)
-          (λ j x j_apart x_there not_other. others_join k origin r.history r.idle r.tickets r.turns r.callers r.out r.owner r.holder id other j x not_other (r.seats j x x_there)) by d d_there apart);
+        (λ j x j_apart x_there not_other. others_join k origin r.history r.idle r.tickets r.turns r.callers r.out r.owner r.holder id other j x not_other (r.seats j x x_there)) by d d_there apart);
   }
 
   pub join_allowed : (id other : ℕ) (v w : V) → w.inside ≡ false → w.ticket ≡ None → Joins Rule id v other w (joined v w) spent_view

@@ -16,14 +16,14 @@ module _ {X O : Type 0} where
   -- a seat that keeps its ticket takes nothing from whoever holds one
   pub served_stay : (vs : List (View X O)) (id : ℕ) (v w : View X O) (j t : ℕ) → get_elem? vs id ≡ some v → w.ticket ≡ v.ticket → Holds vs j t → Holds (set vs id w) j t
   served_stay vs id v w j t at same u = dite (ℕ_discrete j id)
-    (λ e. (w, subst (λ (i : ℕ). get_elem? (set vs id w) i ≡ some w) (sym e) (set_here vs id w (at_below vs id v at)), same ∙ ap (λ (x : View X O). x.ticket) (some-injective v u.0 (sym at ∙ ap (λ i. get_elem? vs i) (sym e) ∙ u.1)) ∙ u.2))
-    (λ ne. (u.0, set_else vs id j w ne ∙ u.1, u.2))
+      (λ e. (w, subst (λ (i : ℕ). get_elem? (set vs id w) i ≡ some w) (sym e) (set_here vs id w (at_below vs id v at)), same ∙ ap (λ (x : View X O). x.ticket) (some-injective v u.0 (sym at ∙ ap (λ i. get_elem? vs i) (sym e) ∙ u.1)) ∙ u.2))
+      (λ ne. (u.0, set_else vs id j w ne ∙ u.1, u.2))
 
   -- nor does a seat with another ticket, or with none
   pub served_else : (vs : List (View X O)) (id : ℕ) (v w : View X O) (j t : ℕ) → get_elem? vs id ≡ some v → v.ticket ≢ Some t → Holds vs j t → Holds (set vs id w) j t
   served_else vs id v w j t at no_such u = dite (ℕ_discrete j id)
-    (λ e. absurd (no_such (ap (λ (x : View X O). x.ticket) (some-injective v u.0 (sym at ∙ ap (λ i. get_elem? vs i) (sym e) ∙ u.1)) ∙ u.2)))
-    (λ ne. (u.0, set_else vs id j w ne ∙ u.1, u.2))
+      (λ e. absurd (no_such (ap (λ (x : View X O). x.ticket) (some-injective v u.0 (sym at ∙ ap (λ i. get_elem? vs i) (sym e) ∙ u.1)) ∙ u.2)))
+      (λ ne. (u.0, set_else vs id j w ne ∙ u.1, u.2))
 
 module _ {T X O : Type 0} (k : Told T X O) (origin : O) (h : List X) (idle tickets turns callers : ℕ) (out : Bool) (owner holder : ℕ → ℕ) where
   -- the seat `id` draws a caller's number

@@ -59,19 +59,19 @@ module _ {X : Type 0} (caller : X → ℕ) where
 
   pub grown : (before : X → ℕ) (n : ℕ) (seen : List X) (idle : ℕ) (turns : List X) (idle_now : ℕ) → AddsOne caller before n seen idle turns idle_now → Grown before n seen idle turns idle_now
   grown before n seen idle turns idle_now adds = ⊎_elim
-    (λ t. let x = t.0 in record {
-      more = x ∷ [];
-      is = t.1;
-      count = let s = ap (λ l. count_of before l) t.1 ∙ sum_by-append (λ y. before y + 1) seen (x ∷ []) in let b = t.3 in let z = t.4 in omega arith;
-      apart = λ m ne. ap (λ b. cond b (x ∷ []) []) (ne_eqb (caller x) m (λ e. ne (sym e ∙ t.2)));
-    })
-    (λ t. record {
-      more = [];
-      is = t.0 ∙ sym (append-nil seen);
-      count = let s = ap (λ l. count_of before l) t.0 in let z = t.1 in omega arith;
-      apart = λ m ne. refl;
-    })
-    adds
+      (λ t. let x = t.0 in record {
+        more = x ∷ [];
+        is = t.1;
+        count = let s = ap (λ l. count_of before l) t.1 ∙ sum_by-append (λ y. before y + 1) seen (x ∷ []) in let b = t.3 in let z = t.4 in omega arith;
+        apart = λ m ne. ap (λ b. cond b (x ∷ []) []) (ne_eqb (caller x) m (λ e. ne (sym e ∙ t.2)));
+      })
+      (λ t. record {
+        more = [];
+        is = t.0 ∙ sym (append-nil seen);
+        count = let s = ap (λ l. count_of before l) t.0 in let z = t.1 in omega arith;
+        apart = λ m ne. refl;
+      })
+      adds
 
   -- two pasts of one list as one: of two lists the longer, which both continue to
   pub record Settled (ns ms : List ℕ) (a b whole h : List X) : Type 0 where
@@ -81,19 +81,19 @@ module _ {X : Type 0} (caller : X → ℕ) where
 
   settles : (ns ms : List ℕ) (a b h : List X) → Continues caller ns a h → Continues caller ms b h → length b ≤ length a → Settled ns ms a b a h
   settles ns ms a b h c d le = let cut = prefix_cut a b c.rest d.rest (sym c.split ∙ d.split) le in
-    let parts : (n : ℕ) → IsIn n ms → (turns_by caller n cut.0 ≡ []) × (turns_by caller n c.rest ≡ []) = λ n i. parts_nil (λ x. eqb (caller x) n) d.rest cut.0 c.rest cut.2 (d.apart n i) in record {
-      first = itself ns a;
-      second = record { rest = cut.0; split = cut.1; apart = λ n i. (parts n i).0 };
-      both = record { rest = c.rest; split = c.split; apart = λ n i. ⊎_elim (λ l. c.apart n l) (λ r. (parts n r).1) (in_either n ns ms i) };
-    }
+      let parts : (n : ℕ) → IsIn n ms → (turns_by caller n cut.0 ≡ []) × (turns_by caller n c.rest ≡ []) = λ n i. parts_nil (λ x. eqb (caller x) n) d.rest cut.0 c.rest cut.2 (d.apart n i) in record {
+        first = itself ns a;
+        second = record { rest = cut.0; split = cut.1; apart = λ n i. (parts n i).0 };
+        both = record { rest = c.rest; split = c.split; apart = λ n i. ⊎_elim (λ l. c.apart n l) (λ r. (parts n r).1) (in_either n ns ms i) };
+      }
 
   settles_other : (ns ms : List ℕ) (a b h : List X) → Continues caller ns a h → Continues caller ms b h → length a ≤ length b → Settled ns ms a b b h
   settles_other ns ms a b h c d le = let cut = prefix_cut b a d.rest c.rest (sym d.split ∙ c.split) le in
-    let parts : (n : ℕ) → IsIn n ns → (turns_by caller n cut.0 ≡ []) × (turns_by caller n d.rest ≡ []) = λ n i. parts_nil (λ x. eqb (caller x) n) c.rest cut.0 d.rest cut.2 (c.apart n i) in record {
-      first = record { rest = cut.0; split = cut.1; apart = λ n i. (parts n i).0 };
-      second = itself ms b;
-      both = record { rest = d.rest; split = d.split; apart = λ n i. ⊎_elim (λ l. (parts n l).1) (λ r. d.apart n r) (in_either n ns ms i) };
-    }
+      let parts : (n : ℕ) → IsIn n ns → (turns_by caller n cut.0 ≡ []) × (turns_by caller n d.rest ≡ []) = λ n i. parts_nil (λ x. eqb (caller x) n) c.rest cut.0 d.rest cut.2 (c.apart n i) in record {
+        first = record { rest = cut.0; split = cut.1; apart = λ n i. (parts n i).0 };
+        second = itself ms b;
+        both = record { rest = d.rest; split = d.split; apart = λ n i. ⊎_elim (λ l. (parts n l).1) (λ r. d.apart n r) (in_either n ns ms i) };
+      }
 
   settled_by : (ns ms : List ℕ) (a b h : List X) (d : Dec (length b ≤ length a)) → Continues caller ns a h → Continues caller ms b h → Settled ns ms a b (pick d a b) h
   settled_by ns ms a b h (yes le) c d = settles ns ms a b h c d le

@@ -12,14 +12,21 @@ use std::snapshot::Snapshot;
 use std::sync::Wait;
 use std::thread;
 
-pub type Board<T: Kept> =
-    Table<Option<T>, View<T::Turn, T::Opening>, Snapshot<T>, InTurn<T>, Global>;
+pub type Board<T: Kept> = Table<
+    Option<T>,
+    View<T::Turn, T::Opening>,
+    Snapshot<T>,
+    InTurn<T>,
+    Global,
+>;
 
 pub type Chair<T: Kept> = Seat<Option<T>, View<T::Turn, T::Opening>>;
 
 /// The words of the table.
 const TICKETS: usize = 0;
+
 const TURNS: usize = 1;
+
 const CALLERS: usize = 2;
 
 /// Draws a caller's number that nobody has.
@@ -71,12 +78,7 @@ pub fn draw_ticket<T: Kept, R: Wait>(
 }
 
 /// Waits until the turn of this ticket has come, and takes the value.
-pub fn take_value<T: Kept, R: Wait>(
-    rt: &R,
-    table: &Board<T>,
-    seat: &mut Chair<T>,
-    ticket: u64,
-) -> T
+pub fn take_value<T: Kept, R: Wait>(rt: &R, table: &Board<T>, seat: &mut Chair<T>, ticket: u64) -> T
     requires own { (seat.old.table_id ≡ table.now.shared.table_id) × (table.now.shared.table_id.words ≡ 3) }
     requires waits { (seat.old.me.0.ticket ≡ Some ticket) × (seat.old.me.0.inside ≡ false) }
     ensures own { seat.new.table_id ≡ seat.old.table_id }

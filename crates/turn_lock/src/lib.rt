@@ -7,9 +7,11 @@ mod lock;
 mod no_memory;
 mod pass;
 mod steps;
+mod threads;
 mod view;
 
 pub use kept::Kept;
 pub use lock::TurnLock;
 pub use no_memory::NoMemory;
 pub use pass::Pass;
+pub use threads::cross_threads;

@@ -12,7 +12,7 @@ fetch_add-requires g c =
       search rules,
       search rules,
       release_allowed _ _ _ _ c.args.number _ c.args.value carried (ap (λ v. v.inside) same ∙ c.requires.inside.0) (ap (λ v. v.other.numbers) same ∙ ap (λ p. p.numbers) c.requires.inside.1)
-        (subst (λ v. IsIn c.args.number v.mine.numbers) (sym same) c.requires.inside.3)
-        (subst (λ v. AddsOne g.T.Kept.caller g.T.Kept.before c.args.number v.mine.seen v.idle (g.T.Kept.turns c.args.value) (g.T.Kept.idle c.args.value)) (sym same) c.requires.value.0)
-        c.requires.value.1,
+          (subst (λ v. IsIn c.args.number v.mine.numbers) (sym same) c.requires.inside.3)
+          (subst (λ v. AddsOne g.T.Kept.caller g.T.Kept.before c.args.number v.mine.seen v.idle (g.T.Kept.turns c.args.value) (g.T.Kept.idle c.args.value)) (sym same) c.requires.value.0)
+          c.requires.value.1,
     )
