@@ -12,11 +12,11 @@ use Rattle.std.proofs.lemmas.List.{set-get_or}
 use Rattle.atomic_table.specs.Table.{State, Me, Act, keeps, takes, gives, Valid, step, stepped, carried_after, put_back, rest, Allows, Splits, Joins, opening}
 use Rattle.atomic_table.proofs.Lists.{set_again, set_else, set_here, exchanged, at_longer}
 use Rattle.turn_lock.specs.declared.view.View.{View}
-use Rattle.turn_lock.specs.Turns.{IsIn, turns_by, count_of, Continues, AddsOne}
+use Rattle.turn_lock.specs.Turns.{IsIn, count_of, Continues, AddsOne}
 use Rattle.turn_lock.specs.Rule.{Told, Fits, IsKept, Holds, Turning}
-use Rattle.turn_lock.specs.working.Steps.{past, blank, spent_view, numbered, with_ticket, inside_view, left_view, split_view, joined, merged, numbering, ticketing, Takes, looking, releasing, settling}
+use Rattle.turn_lock.specs.working.Steps.{blank, spent_view, numbered, with_ticket, inside_view, left_view, split_view, joined, merged, numbering, ticketing, Takes, looking, releasing, settling}
 use Rattle.turn_lock.proofs.Lists.{at_below, at_end, seats_stay, cons_same, put, put_here, put_else, shift, shift_here, shift_else}
-use Rattle.turn_lock.proofs.Pasts.{in_either, in_front, itself, from_nothing, further, still_none, new_number, unseen, no_number, Grown, grown, Settled, settled}
+use Rattle.turn_lock.proofs.Pasts.{in_either, in_front, itself, from_nothing, further, still_none, new_number, unseen, no_number, Grown, grown, settled}
 use Rattle.turn_lock.proofs.Others.{served_stay, served_else, others_number, others_ticket, others_take, others_release, others_join}
 
 module _ {T X O : Type 0} (k : Told T X O) (origin : O) where

@@ -1,5 +1,5 @@
 -- What the other seats keep when one seat steps.
-use Rattle.std.proofs.Common.{◌≡◌, ◌≢◌, ℕ, suc, ◌+◌, ◌<◌, ◌≤◌, Bool, true, false, true≢false, List, [], ◌∷◌, ◌++◌, length, set, Some, sym, refl, ap, ◌∙◌, subst, arith}
+use Rattle.std.proofs.Common.{◌≡◌, ◌≢◌, ℕ, ◌+◌, ◌<◌, Bool, true, false, true≢false, List, [], ◌++◌, set, Some, sym, ap, ◌∙◌, subst, arith}
 use mathlib.Core.Option.{some, some-injective}
 use mathlib.Core.Logic.{dite}
 use native.Mathlib.Decide.{ℕ_discrete}
@@ -7,7 +7,7 @@ use lib.ListN.{get_elem?}
 use Rattle.std.proofs.lemmas.Bool.{false≢true}
 use Rattle.atomic_table.proofs.Lists.{set_here, set_else}
 use Rattle.turn_lock.specs.declared.view.View.{View}
-use Rattle.turn_lock.specs.Turns.{IsIn, turns_by}
+use Rattle.turn_lock.specs.Turns.{turns_by}
 use Rattle.turn_lock.specs.Rule.{Told, Fits, Holds}
 use Rattle.turn_lock.proofs.Lists.{at_below, put, put_else, shift, shift_else}
 use Rattle.turn_lock.proofs.Pasts.{further}

@@ -1,6 +1,5 @@
 -- Pasts and the lists that they continue to.
-use Rattle.std.proofs.Common.{◌≡◌, ◌≢◌, ℕ, suc, ◌+◌, ◌<◌, ◌≤◌, ◌⊎◌, inl, inr, ⊎_elim, List, [], ◌∷◌, ◌++◌, length, cond, ne_eqb, eqb, sym, refl, ap, ◌∙◌, append_assoc, append-nil, arith}
-use Rattle.std.specs.List.{filter, sum_by}
+use Rattle.std.proofs.Common.{◌≡◌, ◌≢◌, ℕ, suc, ◌+◌, ◌≤◌, ◌⊎◌, inl, inr, ⊎_elim, List, [], ◌∷◌, ◌++◌, length, cond, ne_eqb, eqb, sym, refl, ap, ◌∙◌, append_assoc, append-nil, arith}
 use Rattle.std.proofs.lemmas.List.Elements.{filter-append}
 use Rattle.std.proofs.lemmas.List.Sums.{sum_by-append}
 use native.Mathlib.Decide.{dec_le}

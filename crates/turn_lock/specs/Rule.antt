@@ -1,11 +1,10 @@
 -- What holds of the table between any two steps.
 -- Word 0 counts the tickets, word 1 the turns, word 2 the callers' numbers that are drawn. The slot has the value, or it is out with the seat that is in its turn.
-use Rattle.std.specs.Prelude.{◌≡◌, ℕ, ◌+◌, ◌^◌, ◌<◌, ◌≤◌, Bool, true, false, List, [], ◌∷◌, length, Option, Some, None}
+use Rattle.std.specs.Prelude.{◌≡◌, ℕ, ◌+◌, ◌^◌, ◌<◌, ◌≤◌, Bool, true, false, List, [], ◌∷◌, length, Option, Some}
 use mathlib.Core.Option.{some, none}
 use lib.ListN.{get_elem?}
 use Rattle.atomic_table.specs.Table.{State}
 use Rattle.turn_lock.specs.declared.view.View.{View}
-use Rattle.turn_lock.specs.declared.view.Past.{Past}
 use Rattle.turn_lock.specs.Turns.{IsIn, turns_by, count_of, Continues}
 
 -- what a type of kept values tells of a value and of its turns

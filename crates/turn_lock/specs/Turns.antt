@@ -1,5 +1,5 @@
 -- Lists of turns, and what a caller's past says of a longer list.
-use Rattle.std.specs.Prelude.{◌≡◌, ℕ, ◌+◌, ◌==◌, List, [], ◌∷◌, ◌++◌, ◌≤◌, filter, length, ◌⊎◌}
+use Rattle.std.specs.Prelude.{◌≡◌, ℕ, ◌+◌, ◌==◌, List, [], ◌∷◌, ◌++◌, filter, length, ◌⊎◌}
 use native.Mathlib.Decide.{dec_le}
 use Rattle.std.specs.List.{sum_by}
 
