@@ -1,4 +1,7 @@
 mod Lists
 mod Pasts
 mod Others
-mod Moves
+mod Unchanged
+mod Drawing
+mod Taking
+mod Seating

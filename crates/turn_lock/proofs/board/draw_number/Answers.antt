@@ -1,5 +1,6 @@
 use Rattle.std.proofs.Common.{rules}
-use Rattle.turn_lock.proofs.Moves.{same_allowed, number_allowed}
+use Rattle.turn_lock.proofs.Unchanged.{same_allowed}
+use Rattle.turn_lock.proofs.Drawing.{number_allowed}
 use Rattle.turn_lock.proofs.board.draw_number.Goals as goal
 
 pub load-next-requires : goal.load-next-requires

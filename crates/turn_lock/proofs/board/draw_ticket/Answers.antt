@@ -1,5 +1,6 @@
 use Rattle.std.proofs.Common.{rules}
-use Rattle.turn_lock.proofs.Moves.{same_allowed, ticket_allowed}
+use Rattle.turn_lock.proofs.Unchanged.{same_allowed}
+use Rattle.turn_lock.proofs.Drawing.{ticket_allowed}
 use Rattle.turn_lock.proofs.board.draw_ticket.Goals as goal
 
 pub load-next-requires : goal.load-next-requires

@@ -1,5 +1,5 @@
 use Rattle.std.proofs.Common.{rules}
-use Rattle.turn_lock.proofs.Moves.{join_allowed, settle_allowed}
+use Rattle.turn_lock.proofs.Seating.{join_allowed, settle_allowed}
 use Rattle.turn_lock.proofs.board.meet.Goals as goal
 
 pub join_seat-requires : goal.join_seat-requires

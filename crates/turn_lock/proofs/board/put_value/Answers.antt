@@ -1,7 +1,7 @@
 use Rattle.std.proofs.Common.{rules, ap, sym, ◌∙◌, ◌∷◌, Some, subst}
 use Rattle.atomic_table.specs.Table.{rest}
 use Rattle.turn_lock.specs.Turns.{IsIn, AddsOne}
-use Rattle.turn_lock.proofs.Moves.{release_allowed}
+use Rattle.turn_lock.proofs.Taking.{release_allowed}
 use Rattle.turn_lock.proofs.board.put_value.Goals as goal
 
 pub fetch_add-requires : goal.fetch_add-requires

@@ -1,5 +1,5 @@
 use Rattle.std.proofs.Common.{rules}
-use Rattle.turn_lock.proofs.Moves.{split_allowed}
+use Rattle.turn_lock.proofs.Seating.{split_allowed}
 use Rattle.turn_lock.proofs.board.split.Goals as goal
 
 pub split_seat-requires : goal.split_seat-requires

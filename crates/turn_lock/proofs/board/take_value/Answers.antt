@@ -1,6 +1,6 @@
 use Rattle.std.proofs.Common.{rules, ap, sym, ◌∙◌, ◌∷◌, Some}
 use Rattle.atomic_table.specs.Table.{rest}
-use Rattle.turn_lock.proofs.Moves.{look_allowed}
+use Rattle.turn_lock.proofs.Taking.{look_allowed}
 use Rattle.turn_lock.proofs.board.take_value.Goals as goal
 
 pub load-requires : goal.load-requires

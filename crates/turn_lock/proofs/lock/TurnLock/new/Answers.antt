@@ -1,5 +1,5 @@
 use Rattle.std.proofs.Common.{rules, ◌≡◌, ap, sym, [], ◌∷◌, Some}
-use Rattle.turn_lock.proofs.Moves.{opens}
+use Rattle.turn_lock.proofs.Seating.{opens}
 use Rattle.turn_lock.proofs.lock.TurnLock.new.Goals as goal
 
 pub new-requires : goal.new-requires
