@@ -23,7 +23,10 @@ abbrev pub Holds : {X O : Type 0} → List (View X O) → ℕ → ℕ → Type 0
 Holds {X} {O} views by t = (v : View X O) × (get_elem? views by ≡ some v) × (v.ticket ≡ Some t)
 
 module _ {T X O : Type 0} (k : Told T X O) where
-  -- the view of the seat `by`, where `history` are all turns, `idle` counts the idle ones behind them, `owner` tells whose a drawn number is, and `holder` whose a ticket is
+  -- The view of the seat `by`, where `history` are all turns, `idle` counts the idle ones behind them, `owner` tells whose a drawn number is, and `holder` whose a ticket is.
+  -- `mine` and `other` are what it saw, under its numbers and those of a seat that was joined into it: the history goes on from there without them.
+  -- Its numbers are drawn and its own (`drawn`, `drawn_other`), as is its ticket (`ticketed`), which only a seat with a number has (`numbered`); `known` are drawn too.
+  -- In its turn it has the ticket that is the number of turns, and has seen all (`inside`), and no other seat has it (`entered`). The opening that it holds is the value's (`opened`).
   pub record Fits (origin : O) (history : List X) (idle tickets turns callers : ℕ) (out : Bool) (owner holder : ℕ → ℕ) (by : ℕ) (v : View X O) : Type 0 where
     pub mine : Continues k.caller v.mine.numbers v.mine.seen history
     pub other : Continues k.caller v.other.numbers v.other.seen history
@@ -42,7 +45,9 @@ module _ {T X O : Type 0} (k : Told T X O) where
     pub idles : k.idle y ≡ idle
     pub origin_is : k.opening y ≡ origin
 
-  -- there is one history, which every seat has seen a beginning of
+  -- There is one history, which every seat has seen a beginning of.
+  -- The word of turns counts it with its idle turns (`count`), no word wraps (`reached`), and a number that isn't drawn has no turn (`fresh`).
+  -- The value is at home with the history, or out with the seat whose ticket is the word of turns. Each ticket from there on is held (`served`).
   pub record Turning (origin : O) (s : State (Option T) (View X O)) : Type 0 where
     pub history : List X
     pub idle : ℕ

@@ -12,6 +12,7 @@ IsIn n (x ∷ xs) = (n ≡ x) ⊎ IsIn n xs
 abbrev pub count_of : {X : Type 0} → (X → ℕ) → List X → ℕ
 count_of before xs = sum_by (λ x. before x + 1) xs
 
+-- the first for a yes, and the second for a no
 abbrev pub pick : {A B : Type 0} → Dec A → B → B → B
 pick (yes _) a b = a
 pick (no _) a b = b

@@ -63,7 +63,7 @@ impl<T: Kept> TurnLock<T> {
         board::take_value(rt, &self.table, &mut pass.seat, ticket)
     }
 
-    /// Ends the turn. The value has one turn more, by this pass's number, or one idle turn more.
+    /// Ends the turn. The value has one turn more, by this pass's number, or one idle turn more. Nothing is asked of `rt` today: a turn is made of calls that take it.
     pub fn leave<R: Wait + Sync>(&self, _rt: &R, pass: &mut Pass<T>, value: T)
         requires lock { IsOf self.now pass.old }
         requires turn { MayLeave T.caller T.before pass.old (T.turns value) (T.idle value) }
