@@ -2,10 +2,11 @@ ghost use Rattle.std.specs.Prelude.{◌≡◌, ◌<◌, ◌^◌, [], IfOk, IfErr
 ghost use Rattle.policy_ast.specs.declared.item.Item.{Item};
 ghost use Rattle.policy_ast.specs.grammar.Policies.{Spells, kinds};
 ghost use Rattle.policy_ast.proofs.grammar.ReadingItems.{read_items};
-ghost use Rattle.policy_parse.specs.Seen.{run_seen};
+ghost use Rattle.policy_parse.specs.working.Reads.{run_seen};
 ghost use Rattle.policy_parse.specs.Faults.{HasCause, IsTheOne};
 
 use crate::items::item;
+use crate::unparsed::or_none;
 use base_bytes::NoMemory;
 use policy_ast::{Item, Policy, Token};
 use sqlite_items::{Items, at};
@@ -49,7 +50,7 @@ fn items(alloc: Global, tokens: &[Token]) -> Result<(Items<Item>, &[Token]), NoM
     let mut found = Items::new(alloc);
     let mut rest = tokens;
     for _ in 0..tokens.len() {
-        let Some((one, behind)) = item(alloc, MAX_HEIGHT, rest)? else {
+        let Some((one, behind)) = or_none(item(alloc, MAX_HEIGHT, rest))? else {
             return Ok((found, rest));
         };
         found.push(one.tree)?;
