@@ -49,6 +49,13 @@ impl Bytes {
         self.bytes.as_slice()
     }
 
+    /// The vector of the bytes, as it is. Takes no memory.
+    pub fn into_vec(self) -> Vec<u8>
+        ensures { result.items ≡ self }
+    {
+        self.bytes
+    }
+
     pub fn len(&self) -> usize
         ensures { result ≡ length self.now }
     {
@@ -62,7 +69,7 @@ impl Bytes {
     }
 
     /// Adds one byte at the end; without memory the bytes stay as they were.
-    pub fn push(&mut self, byte: u8) -> Result<(), NoMemory>
+    pub fn push(&mut self, _alloc: Global, byte: u8) -> Result<(), NoMemory>
         ensures ok { OnOk result (self.new ≡ self.old ++ byte ∷ []) }
         ensures err { OnErr result (self.new ≡ self.old) }
     {
@@ -71,7 +78,7 @@ impl Bytes {
     }
 
     /// Adds the slice at the end; without memory the bytes stay as they were.
-    pub fn extend(&mut self, more: &[u8]) -> Result<(), NoMemory>
+    pub fn extend(&mut self, _alloc: Global, more: &[u8]) -> Result<(), NoMemory>
         ensures ok { OnOk result (self.new ≡ self.old ++ more.now) }
         ensures err { OnErr result (self.new ≡ self.old) }
     {

@@ -42,6 +42,13 @@ impl Ids {
         self.ids.as_slice()
     }
 
+    /// The vector of the ids, as it is. Takes no memory.
+    pub fn into_vec(self) -> Vec<Id>
+        ensures { result.items ≡ self }
+    {
+        self.ids
+    }
+
     pub fn len(&self) -> usize
         ensures { result ≡ length self.now }
     {
@@ -55,7 +62,7 @@ impl Ids {
     }
 
     /// Adds one id at the end; without memory the ids stay as they were.
-    pub fn push(&mut self, id: Id) -> Result<(), NoMemory>
+    pub fn push(&mut self, _alloc: Global, id: Id) -> Result<(), NoMemory>
         ensures ok { OnOk result (self.new ≡ self.old ++ id ∷ []) }
         ensures err { OnErr result (self.new ≡ self.old) }
     {

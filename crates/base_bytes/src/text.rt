@@ -61,6 +61,13 @@ impl Text {
         self.text.as_str()
     }
 
+    /// The string of the text, as it is. Takes no memory.
+    pub fn into_string(self) -> String
+        ensures { string_bytes result ≡ self }
+    {
+        self.text
+    }
+
     /// The bytes of the text.
     pub fn as_slice(&self) -> &[u8]
         ensures bytes { result.now ≡ self.now }
@@ -83,7 +90,7 @@ impl Text {
     }
 
     /// Adds one character at the end; without memory the text stays as it was.
-    pub fn push(&mut self, character: char) -> Result<(), NoMemory>
+    pub fn push(&mut self, _alloc: Global, character: char) -> Result<(), NoMemory>
         ensures ok { OnOk result (self.new ≡ self.old ++ encode_utf8 character) }
         ensures err { OnErr result (self.new ≡ self.old) }
     {

@@ -10,7 +10,7 @@ use Rattle.command.specs.Kinds.{parents_of}
 use Rattle.command.proofs.ClosedFacts.{bytes_of_same, same_bytes}
 use Rattle.command.proofs.ListFacts.{none_element, one_element}
 use Rattle.command.proofs.ReachFacts.{any_found, any_of}
-use Rattle.braid.specs.Working.{AddsWhere, has_parent}
+use Rattle.braid.specs.working.Placing.{AddsWhere, has_parent}
 
 -- a parent, as the test and as an element
 pub is_parent_of : (id : List ℕ) (y : Command) → has_parent id y ≡ true → Contains (parents_of y) id

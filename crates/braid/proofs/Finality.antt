@@ -22,7 +22,7 @@ no_merge (Finalize parent author name payload tag) is = refl
 no_merge (Merge left right) is = absurd cc
 
 below_finalize : (y f : Command) → is_finalize y ≡ false → is_finalize f ≡ true → IsLower y f
-below_finalize y f other is = rw (other, is) refl
+below_finalize y f other is = IsLower.under_finalize other is
 
 finalize_cases : (c : Command) → (is_finalize c ≡ true) ⊎ (is_finalize c ≡ false)
 finalize_cases c = by (is_finalize c) refl

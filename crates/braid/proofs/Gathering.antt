@@ -18,7 +18,7 @@ use Rattle.command.proofs.AncestorFacts.{inside_down, under_down}
 use Rattle.command.proofs.PlaceFacts.{inside_at, place_at, position_of, take_one_more}
 use Rattle.command.proofs.ClosedFacts.{bytes_of_same, same_by_id}
 use Rattle.command.proofs.ListFacts.{none_element}
-use Rattle.braid.specs.Working.{AddsWhere, IsAmong}
+use Rattle.braid.specs.working.Placing.{AddsWhere, IsAmong}
 use Rattle.braid.proofs.Additions.{found_place}
 use Rattle.braid.proofs.PickOrder.{one_at}
 

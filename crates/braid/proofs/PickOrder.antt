@@ -10,8 +10,8 @@ use Rattle.command.specs.Ancestors.{IsAt}
 use Rattle.command.specs.Kinds.{is_merge}
 use Rattle.command.proofs.ListFacts.{none_element}
 use Rattle.braid.specs.Lower.{IsLower}
-use Rattle.braid.specs.Working.{IsAmong, IsBefore, IsFirst, pick_order}
-use Rattle.braid.proofs.Order.{rank_total}
+use Rattle.braid.specs.working.Placing.{IsAmong, IsBefore, IsFirst, pick_order}
+use Rattle.braid.proofs.Order.{rank_from_lower, rank_total}
 
 pick_total : IsTotalOrder pick_order
 pick_total = then_total (on_total is_merge (back_total bool_cmp_total)) rank_total
@@ -27,7 +27,7 @@ pub merge_before : (x y : Command) → is_merge x ≡ true → is_merge y ≡ fa
 merge_before x y is other = rw (is, other) refl
 
 pub lower_before : (x y : Command) → is_merge x ≡ false → is_merge y ≡ false → IsLower x y → IsBefore x y
-lower_before x y is other lower = rw (is, other) lower
+lower_before x y is other lower = rw (is, other) (rank_from_lower x y lower)
 
 -- the command at a place that is there
 pub command_at : (cs : List Command) (place : ℕ) → place < length cs → (x : Command) × IsAt cs place x

@@ -8,7 +8,7 @@ use Rattle.command.specs.declared.command.Command.{Command}
 use Rattle.command.specs.Ancestors.{IsAt}
 use Rattle.command.proofs.ListFacts.{at_head, behind_head, head_cases, none_element}
 use Rattle.braid.specs.Braids.{picked}
-use Rattle.braid.specs.Working.{IsAmong, struck}
+use Rattle.braid.specs.working.Placing.{IsAmong, struck}
 
 kept_or_not : (b : Bool) (p q : ℕ) (more : List ℕ) → Contains (cond (not b) (p ∷ more) more) q → ((b ≡ false) × (p ≡ q)) ⊎ Contains more q
 kept_or_not true p q more h = inr h

@@ -16,7 +16,7 @@ use Rattle.command.proofs.ListFacts.{at_head, behind_head, head_cases, none_elem
 use Rattle.command.proofs.PlaceFacts.{inside_at, one_place, place_at, place_is}
 use Rattle.braid.specs.Braids.{IsBraidUnder, IsPlaced, IsTop, picked}
 use Rattle.braid.specs.Lower.{IsLower}
-use Rattle.braid.specs.Working.{AddsWhere, HasChild, IsAmong, IsFirst, IsFree, Placing, has_parent, struck}
+use Rattle.braid.specs.working.Placing.{AddsWhere, HasChild, IsAmong, IsFirst, IsFree, Placing, has_parent, struck}
 use Rattle.braid.proofs.Additions.{is_parent_of, parent_is}
 use Rattle.braid.proofs.Agreement.{merge_cases}
 use Rattle.braid.proofs.Existence.{plain, plain_has, plain_was}

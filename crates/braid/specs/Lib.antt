@@ -2,4 +2,4 @@
 pub mod Lower
 pub mod Braids
 pub mod Agreeing
-pub mod Working
+pub mod working

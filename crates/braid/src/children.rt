@@ -1,6 +1,6 @@
 ghost use Rattle.std.specs.Prelude.{◌≡◌, ◌<◌, ◌⊎◌, ◌↔◌, IsTrue, ℕ, [], ◌∷◌, IfOk, OnOk, length};
 ghost use Rattle.std.specs.List.{All, Contains};
-ghost use Rattle.braid.specs.Working.{AddsWhere, HasChild, IsFree, has_parent};
+ghost use Rattle.braid.specs.working.Placing.{AddsWhere, HasChild, IsFree, has_parent};
 ghost use Rattle.command.specs.Kinds.{parents_of};
 
 use base_bytes::{Id, NoMemory};

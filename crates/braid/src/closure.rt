@@ -4,7 +4,7 @@ ghost use Rattle.command.specs.Ancestors.{IsUnder};
 ghost use Rattle.command.specs.Kinds.{parents_of};
 ghost use Rattle.command.specs.declared.command.Command.{Command as TheCommand};
 ghost use Rattle.indexmap.specs.IndexSet.{IsUnique};
-ghost use Rattle.braid.specs.Working.{AddsWhere, IsAmong};
+ghost use Rattle.braid.specs.working.Placing.{AddsWhere, IsAmong};
 
 use base_bytes::{Id, NoMemory};
 use command::{Command, Graph};

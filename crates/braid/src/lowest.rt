@@ -2,7 +2,7 @@ ghost use Rattle.std.specs.Prelude.{◌≡◌, ◌<◌, ℕ, List, [], ◌∷◌
 ghost use Rattle.std.specs.List.{All};
 ghost use Rattle.command.specs.Ancestors.{IsAt};
 ghost use Rattle.command.specs.declared.command.Command.{Command as TheCommand};
-ghost use Rattle.braid.specs.Working.{IsBest, IsFirst, pick_order};
+ghost use Rattle.braid.specs.working.Placing.{IsBest, IsFirst, pick_order};
 
 use command::Graph;
 use std::cmp::Ordering;

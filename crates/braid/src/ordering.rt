@@ -1,7 +1,7 @@
 ghost use Rattle.std.specs.Prelude.{◌≡◌, ◌<◌, ℕ, List, IfOk, OnOk, length};
 ghost use Rattle.std.specs.List.{All};
 ghost use Rattle.braid.specs.Braids.{IsBraidUnder, picked};
-ghost use Rattle.braid.specs.Working.{IsFirst, Placing, struck};
+ghost use Rattle.braid.specs.working.Placing.{IsFirst, Placing, struck};
 
 use crate::children::{free, tops};
 use crate::closure::closure;
@@ -19,6 +19,7 @@ fn strike(places: &mut Vec<usize>, place: usize)
 
 /// Takes the first place, and places its command in front of the others, unless it is a merge.
 fn take<G: Graph>(
+    alloc: Global,
     graph: &G,
     place: usize,
     left: &mut Vec<usize>,
@@ -36,7 +37,7 @@ fn take<G: Graph>(
     let command = graph.at(place);
     free(graph, left.as_slice(), command, tops)?;
     if !command.is_merge() {
-        placed.push(place)?;
+        placed.push(alloc, place)?;
     }
     Ok(())
 }
@@ -52,7 +53,7 @@ pub fn braid<G: Graph>(alloc: Global, graph: &G, tips: &[usize]) -> Result<Place
     let mut tops = tops(alloc, graph, left.as_slice())?;
     let mut placed = Places::new(alloc);
     while let Some(place) = lowest(graph, tops.as_slice()) {
-        take(graph, place, &mut left, &mut tops, &mut placed)?;
+        take(alloc, graph, place, &mut left, &mut tops, &mut placed)?;
     }
     placed.reverse();
     Ok(placed)

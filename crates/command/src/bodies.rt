@@ -2,6 +2,7 @@ ghost use Rattle.std.specs.Prelude.{◌≡◌, ◌≤◌, length, IfOk};
 ghost use Rattle.command.specs.Wire as form;
 
 use crate::command::Command;
+use crate::pieces::Growing;
 use crate::writing::{write, write_basic, write_body, write_finalize, write_init};
 use base_bytes::{Bytes, Id, NoMemory, Text};
 use std::alloc::Global;
@@ -12,9 +13,9 @@ pub fn to_bytes(alloc: Global, command: &Command) -> Result<Bytes, NoMemory>
     ensures form { IfOk result (λ bytes. form.IsWire command.now bytes) }
     ensures size { IfOk result (λ bytes. length bytes ≤ 4301) }
 {
-    let mut bytes = Bytes::new(alloc);
-    write(&mut bytes, command)?;
-    Ok(bytes)
+    let mut out = Growing::new(alloc);
+    write(&mut out, command)?;
+    Ok(out.bytes)
 }
 
 /// The part of a command that its tag seals: all before the tag's length. A merge has no tag, and is its own body.
@@ -22,9 +23,9 @@ pub fn body_of(alloc: Global, command: &Command) -> Result<Bytes, NoMemory>
     requires { form.IsInForm command.now }
     ensures { IfOk result (λ bytes. bytes ≡ form.body command.now) }
 {
-    let mut bytes = Bytes::new(alloc);
-    write_body(&mut bytes, command)?;
-    Ok(bytes)
+    let mut out = Growing::new(alloc);
+    write_body(&mut out, command)?;
+    Ok(out.bytes)
 }
 
 /// The body of an init that has no tag yet.
@@ -38,9 +39,9 @@ pub fn init_body(
     requires { form.AreContent name.now payload.now }
     ensures { IfOk result (λ bytes. bytes ≡ form.init_body digest.now author.now name.now payload.now) }
 {
-    let mut bytes = Bytes::new(alloc);
-    write_init(&mut bytes, digest, author, name, payload)?;
-    Ok(bytes)
+    let mut out = Growing::new(alloc);
+    write_init(&mut out, digest, author, name, payload)?;
+    Ok(out.bytes)
 }
 
 /// The body of a basic command that has no tag yet.
@@ -55,9 +56,9 @@ pub fn basic_body(
     requires { form.AreContent name.now payload.now }
     ensures { IfOk result (λ bytes. bytes ≡ form.basic_body priority parent.now author.now name.now payload.now) }
 {
-    let mut bytes = Bytes::new(alloc);
-    write_basic(&mut bytes, priority, parent, author, name, payload)?;
-    Ok(bytes)
+    let mut out = Growing::new(alloc);
+    write_basic(&mut out, priority, parent, author, name, payload)?;
+    Ok(out.bytes)
 }
 
 /// The body of a finalize that has no tag yet.
@@ -71,7 +72,7 @@ pub fn finalize_body(
     requires { form.AreContent name.now payload.now }
     ensures { IfOk result (λ bytes. bytes ≡ form.finalize_body parent.now author.now name.now payload.now) }
 {
-    let mut bytes = Bytes::new(alloc);
-    write_finalize(&mut bytes, parent, author, name, payload)?;
-    Ok(bytes)
+    let mut out = Growing::new(alloc);
+    write_finalize(&mut out, parent, author, name, payload)?;
+    Ok(out.bytes)
 }

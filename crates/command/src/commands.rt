@@ -36,7 +36,7 @@ impl Commands {
     {
         let mut all = Commands::new(alloc);
         for command in commands {
-            all.push(command.copy(alloc)?)?;
+            all.push(alloc, command.copy(alloc)?)?;
         }
         Ok(all)
     }
@@ -45,6 +45,13 @@ impl Commands {
         ensures { result.now ≡ self.now }
     {
         self.commands.as_slice()
+    }
+
+    /// The vector of the commands, as it is. Takes no memory.
+    pub fn into_vec(self) -> Vec<Command>
+        ensures { result.items ≡ self }
+    {
+        self.commands
     }
 
     pub fn len(&self) -> usize
@@ -60,7 +67,7 @@ impl Commands {
     }
 
     /// Adds one command at the end; without memory the commands stay as they were.
-    pub fn push(&mut self, command: Command) -> Result<(), NoMemory>
+    pub fn push(&mut self, _alloc: Global, command: Command) -> Result<(), NoMemory>
         ensures ok { OnOk result (self.new ≡ self.old ++ command ∷ []) }
         ensures err { OnErr result (self.new ≡ self.old) }
     {

@@ -16,7 +16,7 @@ pub const MAX_COMMANDS: usize = 65_536;
 
 /// A graph of commands, seen as their list in stored order. The list is closed, and has at most `MAX_COMMANDS`. Places are
 /// counted in it, from 0.
-pub trait Graph: Sized {
+pub trait Graph: Sized + Drop {
     /// The commands in stored order.
     ghost commands: { Self → List TheCommand };
 
@@ -60,7 +60,7 @@ pub trait Graph: Sized {
         ensures { result ≡ room self.now };
 
     /// Makes room for so many more commands; without memory the commands stay as they were, and no room is lost.
-    fn reserve(&mut self, more: usize) -> Result<(), NoMemory>
+    fn reserve(&mut self, alloc: Global, more: usize) -> Result<(), NoMemory>
         ensures ok { OnOk result (more ≤ room self.new) }
         ensures commands { commands self.new ≡ commands self.old }
         ensures kept { room self.old ≤ room self.new };

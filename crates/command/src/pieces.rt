@@ -1,7 +1,9 @@
-ghost use Rattle.command.specs.Taking.{Adds};
+ghost use Rattle.std.specs.Prelude.{◌≡◌, []};
+ghost use Rattle.command.specs.working.Taking.{Adds};
 
 use base_bytes::{Bytes, NoMemory};
 use sha2::{Digest, Sha256};
+use std::alloc::Global;
 use std::convert::Infallible;
 
 /// What takes a command's bytes piece by piece: a list that grows, or a digest that is made on the way.
@@ -18,15 +20,34 @@ pub trait Pieces {
         ensures { OnOk result (Adds holds self.old piece.now self.new) };
 }
 
-impl Pieces for Bytes {
+/// Bytes that grow, and the memory that they grow in.
+#[derive(Drop)]
+pub struct Growing {
+    pub alloc: Global,
+    pub bytes: Bytes,
+}
+
+impl Growing {
+    /// No bytes yet.
+    pub fn new(alloc: Global) -> Growing
+        ensures { result.bytes ≡ [] }
+    {
+        Growing {
+            alloc,
+            bytes: Bytes::new(alloc),
+        }
+    }
+}
+
+impl Pieces for Growing {
     ghost use Rattle.std.specs.Prelude.{◌≡◌};
 
-    ghost holds = { λ bytes taken. bytes ≡ taken };
+    ghost holds = { λ growing taken. growing.bytes ≡ taken };
 
     type Refusal = NoMemory;
 
     fn add(&mut self, piece: &[u8]) -> Result<(), NoMemory> {
-        self.extend(piece)
+        self.bytes.extend(self.alloc, piece)
     }
 }
 

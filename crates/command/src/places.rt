@@ -42,6 +42,13 @@ impl Places {
         self.places.as_slice()
     }
 
+    /// The vector of the places, as it is. Takes no memory.
+    pub fn into_vec(self) -> Vec<usize>
+        ensures { result.items ≡ self }
+    {
+        self.places
+    }
+
     pub fn len(&self) -> usize
         ensures { result ≡ length self.now }
     {
@@ -55,7 +62,7 @@ impl Places {
     }
 
     /// Adds one place at the end; without memory the places stay as they were.
-    pub fn push(&mut self, place: usize) -> Result<(), NoMemory>
+    pub fn push(&mut self, _alloc: Global, place: usize) -> Result<(), NoMemory>
         ensures ok { OnOk result (self.new ≡ self.old ++ place ∷ []) }
         ensures err { OnErr result (self.new ≡ self.old) }
     {

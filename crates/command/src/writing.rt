@@ -1,5 +1,5 @@
 ghost use Rattle.std.specs.Prelude.{◌≡◌, length, ◌<◌, ◌≤◌, ◌^◌, OnOk};
-ghost use Rattle.command.specs.Taking.{Adds};
+ghost use Rattle.command.specs.working.Taking.{Adds};
 ghost use Rattle.std.specs.Int.{w8, w32};
 ghost use Rattle.base_bytes.specs.Pieces.{counted};
 ghost use Rattle.command.specs.Wire as form;

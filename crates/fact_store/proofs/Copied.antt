@@ -10,10 +10,10 @@ use Rattle.std.specs.Cmp.{eq_by_cmp_equiv, tied_back, unsigned_Decides}
 use Rattle.std.specs.Ordering.{eq_by_cmp}
 use Rattle.base_bytes.specs.declared.value.Value.{Value}
 use Rattle.fact_store.specs.declared.wanted.Wanted.{Wanted}
-use Rattle.fact_store.specs.Orders.{wanted_order, wanted_order_total}
+use Rattle.fact_store.specs.working.Orders.{wanted_order, wanted_order_total}
 use Rattle.fact_store.specs.Rows.{are_keys, is_base}
 use Rattle.fact_store.specs.Sameness.{same_values}
-use Rattle.fact_store.specs.Stored.{row_of, rows_of}
+use Rattle.fact_store.specs.working.Stored.{row_of, rows_of}
 use Rattle.fact_store.proofs.Bases.{base_parts}
 use Rattle.fact_store.proofs.Places.{row_ties}
 use Rattle.fact_store.proofs.Sameness.{same_values_decide}

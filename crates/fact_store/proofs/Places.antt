@@ -10,7 +10,7 @@ use Rattle.base_bytes.specs.declared.value.Value.{Value, out-Value, roll-Value, 
 use Rattle.base_bytes.specs.declared.value.Value.TheOpen.{Value-F}
 use Rattle.fact_store.specs.declared.row.Row.{Row}
 use Rattle.fact_store.specs.Matching.{is_at}
-use Rattle.fact_store.specs.Orders.{keys_order_total}
+use Rattle.fact_store.specs.working.Orders.{keys_order_total}
 use Rattle.fact_store.specs.Rows.{are_keys, is_before, place_order}
 use Rattle.fact_store.specs.Sameness.{same_value, same_values}
 use Rattle.fact_store.proofs.Sameness.{both, same_value_decides, through}

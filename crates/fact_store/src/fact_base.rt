@@ -5,7 +5,6 @@ ghost use Rattle.fact_store.specs.Writes.{Writes, created, deleted, updated};
 
 use crate::{Row, Wanted, WriteFault};
 use base_bytes::{NoMemory, Values};
-use sqlite_items::Items;
 use std::alloc::Global;
 
 /// Rows of facts, in fact order. Every call that takes a row, a query or keys asks that the keys are key values.
@@ -31,9 +30,9 @@ pub trait FactBase: Sized + Drop {
         ensures { result ≡ min limit (row_count wanted.now (rows self.now)) };
 
     /// All rows that match, in fact order.
-    fn select(&self, alloc: Global, wanted: &Wanted) -> Result<Items<Row>, NoMemory>
+    fn select(&self, alloc: Global, wanted: &Wanted) -> Result<Vec<Row>, NoMemory>
         requires { IsTrue (are_keys wanted.now.keys) }
-        ensures { IfOk result (λ found. found ≡ selected wanted.now (rows self.now)) };
+        ensures { IfOk result (λ found. found.items ≡ selected wanted.now (rows self.now)) };
 
     /// Adds the row. `Exists` where one of its fact and keys is there.
     fn create(&mut self, alloc: Global, row: Row) -> Result<(), WriteFault>

@@ -1,8 +1,8 @@
 ghost use Rattle.std.specs.Prelude.{IfOk, IsTrue};
 ghost use Rattle.std.specs.BTreeMap.{IsFromIterResult};
-ghost use Rattle.fact_store.specs.Orders.{wanted_order};
+ghost use Rattle.fact_store.specs.working.Orders.{wanted_order};
 ghost use Rattle.fact_store.specs.Rows.{is_base};
-ghost use Rattle.fact_store.specs.Stored.{rows_of};
+ghost use Rattle.fact_store.specs.working.Stored.{rows_of};
 
 use crate::matching::{has_named, is_place_within};
 use crate::row::row_at;
@@ -53,8 +53,8 @@ impl FactBase for Facts {
         found
     }
 
-    fn select(&self, alloc: Global, wanted: &Wanted) -> Result<Items<Row>, NoMemory> {
-        let mut found = Items::new(alloc);
+    fn select(&self, alloc: Global, wanted: &Wanted) -> Result<Vec<Row>, NoMemory> {
+        let mut found = Vec::new(alloc);
         for (place, values) in self.stored.range(wanted..) {
             if !is_place_within(wanted, place) {
                 return Ok(found);

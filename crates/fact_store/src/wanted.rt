@@ -38,7 +38,7 @@ impl Wanted {
 }
 
 impl PartialEq for Wanted {
-    ghost use Rattle.fact_store.specs.Orders.{wanted_order, wanted_order_total};
+    ghost use Rattle.fact_store.specs.working.Orders.{wanted_order, wanted_order_total};
 
     ghost eq = { eq_by_cmp wanted_order };
 
@@ -50,13 +50,13 @@ impl PartialEq for Wanted {
 }
 
 impl Eq for Wanted {
-    ghost use Rattle.fact_store.specs.Orders.{wanted_order_total};
+    ghost use Rattle.fact_store.specs.working.Orders.{wanted_order_total};
 
     ghost laws = { eq_by_cmp_equiv wanted_order_total };
 }
 
 impl PartialOrd for Wanted {
-    ghost use Rattle.fact_store.specs.Orders.{wanted_order, wanted_order_total};
+    ghost use Rattle.fact_store.specs.working.Orders.{wanted_order, wanted_order_total};
 
     ghost partial_cmp = { as_partial_cmp wanted_order };
 
@@ -68,7 +68,7 @@ impl PartialOrd for Wanted {
 }
 
 impl Ord for Wanted {
-    ghost use Rattle.fact_store.specs.Orders.{wanted_order, wanted_order_total};
+    ghost use Rattle.fact_store.specs.working.Orders.{wanted_order, wanted_order_total};
 
     ghost cmp = { wanted_order };
 

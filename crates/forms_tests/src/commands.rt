@@ -74,7 +74,7 @@ fn put(alloc: Global) -> Result<Command, NoMemory>
     ensures { IfOk result (λ command. IsInForm command) }
 {
     let mut payload = Bytes::new(alloc);
-    encode_value(&Value::Int(1), &mut payload)?;
+    encode_value(alloc, &Value::Int(1), &mut payload)?;
     Ok(Command::Basic {
         priority: 7,
         parent: Id::new(PARENT),

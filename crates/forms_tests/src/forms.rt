@@ -35,7 +35,7 @@ fn note_again(alloc: Global, bytes: &[u8]) -> Result<Option<Bytes>, NoMemory> {
         return Ok(None);
     };
     let mut again = Bytes::new(alloc);
-    encode_value(&value, &mut again)?;
+    encode_value(alloc, &value, &mut again)?;
     Ok(Some(again))
 }
 

@@ -13,21 +13,21 @@ use std::test::*;
 
 fn grown_bytes(alloc: Global) -> Result<Bytes, NoMemory> {
     let mut bytes = Bytes::from_slice(alloc, &[1, 2])?;
-    bytes.push(3)?;
-    bytes.extend(&[4, 5])?;
+    bytes.push(alloc, 3)?;
+    bytes.extend(alloc, &[4, 5])?;
     bytes.truncate(4);
     bytes.copy(alloc)
 }
 
 fn grown_text(alloc: Global) -> Result<Text, NoMemory> {
     let mut text = Text::from_string(String::from_str(alloc, "na")?);
-    text.push('é')?;
+    text.push(alloc, 'é')?;
     text.copy(alloc)
 }
 
 fn grown_ids(alloc: Global) -> Result<Ids, NoMemory> {
     let mut ids = Ids::from_slice(alloc, &[Id::new([1; 32])])?;
-    ids.push(Id::new([2; 32]))?;
+    ids.push(alloc, Id::new([2; 32]))?;
     ids.copy(alloc)
 }
 
@@ -71,7 +71,7 @@ fn are_two_merges(commands: &Commands) -> bool {
 
 fn grown_commands(alloc: Global) -> Result<Commands, NoMemory> {
     let mut commands = Commands::from_slice(alloc, &[merge(1, 2)])?;
-    commands.push(merge(3, 4))?;
+    commands.push(alloc, merge(3, 4))?;
     Ok(commands)
 }
 
@@ -89,7 +89,7 @@ fn lists_of_commands_grow(rt: HostRuntime) -> Result<(), Fail> {
 
 fn grown_places(alloc: Global) -> Result<Places, NoMemory> {
     let mut places = Places::from_slice(alloc, &[7, 5])?;
-    places.push(9)?;
+    places.push(alloc, 9)?;
     Ok(places)
 }
 
@@ -109,9 +109,9 @@ fn lists_of_places_grow(rt: HostRuntime) -> Result<(), Fail> {
 // A merge behind its length, and one byte behind it.
 fn counted_merge(alloc: Global) -> Result<Bytes, NoMemory> {
     let mut bytes = Bytes::from_slice(alloc, &[0, 0, 0, 66, 1, 3])?;
-    bytes.extend(&[1; 32])?;
-    bytes.extend(&[2; 32])?;
-    bytes.push(9)?;
+    bytes.extend(alloc, &[1; 32])?;
+    bytes.extend(alloc, &[2; 32])?;
+    bytes.push(alloc, 9)?;
     Ok(bytes)
 }
 

@@ -30,7 +30,7 @@ fn assert_spelled(rt: &impl Abort, alloc: Global, value: &Value, want: &str) -> 
     requires { IsTrue (is_short value.now) }
 {
     let mut bytes = Bytes::new(alloc);
-    encode_value(value, &mut bytes)?;
+    encode_value(alloc, value, &mut bytes)?;
     let text = hex::encode(alloc, bytes.as_slice())?;
     assert_eq!(rt; text.as_str(), want);
     Ok(())

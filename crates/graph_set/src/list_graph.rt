@@ -1,7 +1,7 @@
 ghost use Rattle.std.specs.Prelude.{◌≡◌, ◌≤◌, ◌<◌, ◌+◌, [], ◌∷◌, ◌++◌, IsOk, IfOk, OnOk, map};
 ghost use Rattle.command.specs.Closed.{IsHeld};
 ghost use Rattle.command.specs.Wire.{IsFormed, IsInForm, command_id};
-ghost use Rattle.graph_set.specs.Held.{IsGraph, graph_prop};
+ghost use Rattle.graph_set.specs.working.Held.{IsGraph, graph_prop};
 ghost use Rattle.indexmap.specs.IndexMap.{keys, spare, values};
 
 use crate::parents::{add_head, add_parents, go_on, has_parent_among};
@@ -58,7 +58,7 @@ impl ListGraph {
     {
         let mut places = Places::new(alloc);
         for place in 0..self.len() {
-            add_head(&mut places, ids, &self.id_at(place), place)?;
+            add_head(alloc, &mut places, ids, &self.id_at(place), place)?;
         }
         Ok(places)
     }
@@ -125,7 +125,7 @@ impl Graph for ListGraph {
         self.room
     }
 
-    fn reserve(&mut self, more: usize) -> Result<(), NoMemory> {
+    fn reserve(&mut self, _alloc: Global, more: usize) -> Result<(), NoMemory> {
         if self.room < more {
             self.commands.reserve(more)?;
             self.room = more;

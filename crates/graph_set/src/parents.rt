@@ -2,22 +2,19 @@ ghost use Rattle.std.specs.Prelude.{◌≡◌, ◌||◌, if◌then◌else◌, �
 ghost use Rattle.std.specs.List.{list_any};
 ghost use Rattle.std.specs.Str.{bytes_eq};
 ghost use Rattle.command.specs.Kinds.{parents_of};
-ghost use Rattle.graph_set.specs.Held.{GoesOn, IsAdded, has_parent_among};
+ghost use Rattle.graph_set.specs.working.Held.{AreAdded, GoesOn, IsAdded, has_parent_among};
 
 use base_bytes::{Id, NoMemory};
 use command::{Command, Places};
 use indexmap::IndexSet;
+use std::alloc::Global;
 
 /// Whether some parent of the command is among the ids.
 pub fn has_parent_among(ids: &IndexSet<Id>, command: &Command) -> bool
     ensures { result ≡ has_parent_among ids.now.keys command.now }
 {
-    match command {
-        Command::Init { .. } => false,
-        Command::Basic { parent, .. } => ids.contains(parent),
-        Command::Finalize { parent, .. } => ids.contains(parent),
-        Command::Merge { left, right } => ids.contains(left) || ids.contains(right),
-    }
+    let parents = command.parents();
+    parents.as_slice().iter().any(|parent| ids.contains(parent))
 }
 
 /// Puts the command's id among the ids where a parent of it is there.
@@ -32,17 +29,21 @@ pub fn go_on(ids: &mut IndexSet<Id>, command: &Command, id: &Id) -> Result<(), N
 
 /// Puts the parents of the command among the ids.
 pub fn add_parents(ids: &mut IndexSet<Id>, command: &Command) -> Result<(), NoMemory>
-    ensures { OnOk result ((id : List ℕ) → list_any (bytes_eq id) ids.new.keys ≡ (list_any (bytes_eq id) ids.old.keys || list_any (bytes_eq id) (parents_of command.now))) }
+    ensures { OnOk result (AreAdded ids.old.keys (parents_of command.now) ids.new.keys) }
 {
-    match command {
-        Command::Init { .. } => {}
-        Command::Basic { parent, .. } => add(ids, parent)?,
-        Command::Finalize { parent, .. } => add(ids, parent)?,
-        Command::Merge { left, right } => {
-            add(ids, left)?;
-            add(ids, right)?;
-        }
-    }
+    let parents = command.parents();
+    add_all(ids, parents.as_slice())
+}
+
+#[tactic(auto, using(crate::proofs::AddedIds::first_added))]
+fn add_all(ids: &mut IndexSet<Id>, all: &[Id]) -> Result<(), NoMemory>
+    ensures { OnOk result (AreAdded ids.old.keys all.now ids.new.keys) }
+{
+    let Some((first, rest)) = all.split_first() else {
+        return Ok(());
+    };
+    add(ids, first)?;
+    add_all(ids, rest)?;
     Ok(())
 }
 
@@ -55,6 +56,7 @@ fn add(ids: &mut IndexSet<Id>, one: &Id) -> Result<(), NoMemory>
 
 /// Adds the place of a command with this id, where it is no parent.
 pub fn add_head(
+    alloc: Global,
     heads: &mut Places,
     parents: &IndexSet<Id>,
     id: &Id,
@@ -63,7 +65,7 @@ pub fn add_head(
     ensures { OnOk result (heads.new ≡ heads.old ++ (if list_any (bytes_eq id.now) parents.now.keys then [] else place ∷ [])) }
 {
     if !parents.contains(id) {
-        heads.push(place)?;
+        heads.push(alloc, place)?;
     }
     Ok(())
 }

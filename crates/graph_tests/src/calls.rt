@@ -37,7 +37,7 @@ fn a_copy_stays(rt: HostRuntime) -> Result<(), Fail> {
     let alloc = rt.alloc();
     let mut graph = graph(&rt, alloc)?;
     let copy = graph.copy(alloc)?;
-    graph.reserve(2)?;
+    graph.reserve(alloc, 2)?;
     let room = graph.spare();
     assert!(rt; room >= 2);
     let next = command(alloc, &graph, Step::Basic(3, 2, 3))?;

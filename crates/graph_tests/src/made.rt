@@ -164,7 +164,7 @@ pub fn append<G: Graph>(graph: &mut G, command: Command) -> bool
 /// The graph of the steps, and None where one of them isn't allowed.
 pub fn made<G: Graph + Drop>(alloc: Global, steps: &[Step]) -> Result<Option<G>, NoMemory> {
     let mut graph = G::empty(alloc)?;
-    graph.reserve(steps.len())?;
+    graph.reserve(alloc, steps.len())?;
     for step in steps {
         let Some(command) = command(alloc, &graph, *step)? else {
             return Ok(None);

@@ -1,5 +1,5 @@
 -- Files by name: what a read gives, and the name that a failed read leaves.
-use Rattle.std.specs.Prelude.{◌≡◌, ℕ, ◌+◌, List, take, Option, None, Some, IfSome, Result, Ok, Err}
+use Rattle.std.specs.Prelude.{◌≡◌, ℕ, ◌+◌, List, take, Option, None, Some, IfSome, Result, Ok, Err, IsErr}
 use Rattle.std.specs.Option.{option_map}
 use Rattle.outside.specs.declared.faults.ReadFail.{ReadFail}
 use Rattle.outside.specs.declared.faults.ReadFail.TheVariants as fail
@@ -12,9 +12,9 @@ Holding = List ℕ → Option (List ℕ)
 abbrev pub ReadsFile : Option Holding → List ℕ → ℕ → List ℕ → Type 0
 ReadsFile holds name limit bytes = IfSome holds (λ at. option_map (take (limit + 1)) (at name) ≡ Some bytes)
 
--- where the files are told: a name that isn't there is a failed read
+-- where the files are told: a read of a name that isn't there gives no bytes
 abbrev pub FailsMissing : {T : Type 0} → Option Holding → List ℕ → Result T ReadFail → Type 0
-FailsMissing holds name result = IfSome holds (λ at. at name ≡ None → result ≡ Err fail.Failed)
+FailsMissing holds name result = IfSome holds (λ at. at name ≡ None → IsErr result)
 
 -- the name of the latest failed read, after a read of this name
 abbrev pub last_after : {T : Type 0} → Result T ReadFail → List ℕ → Option (List ℕ) → Option (List ℕ)

@@ -5,7 +5,7 @@ use crate::Failed;
 use base_bytes::{Id, Tag};
 
 /// What makes the tags of commands, and tells the good ones.
-pub trait Envelope {
+pub trait Envelope: Drop {
     /// Whether a tag is good for an author and a body: one test of the type, the same for all its values.
     ghost good: { List ℕ → List ℕ → List ℕ → Bool };
 

@@ -7,7 +7,7 @@ use base_bytes::{Bytes, Text};
 use std::alloc::Global;
 
 /// Files that are read by name.
-pub trait Files {
+pub trait Files: Drop {
     /// The files by name, where they are told.
     ghost holds: { Self → Option Holding };
 
@@ -17,8 +17,7 @@ pub trait Files {
     /// How often a read failed, up to 2^64 - 1.
     ghost faults: { Self → ℕ };
 
-    /// The first `limit + 1` bytes of the named file, or the whole of a shorter one. Failed where the name isn't there,
-    /// and NoMemory where the bytes find no room.
+    /// The first `limit + 1` bytes of the named file, or the whole of a shorter one. Never Ok where the name isn't there.
     fn read(&mut self, alloc: Global, name: Text, limit: u64) -> Result<Bytes, ReadFail>
         ensures bytes { IfOk result (ReadsFile (holds self.old) name limit) }
         ensures missing { FailsMissing (holds self.old) name result }

@@ -14,9 +14,11 @@ mod memory_disk;
 mod memory_files;
 mod memory_sink;
 mod plain_tag;
+mod replaced;
 mod schedule;
 mod sink;
 mod tag_envelope;
+mod tracked_bytes;
 
 pub use disk::Disk;
 pub use envelope::Envelope;

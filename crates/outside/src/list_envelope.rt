@@ -29,7 +29,7 @@ impl ListEnvelope {
 }
 
 impl Envelope for ListEnvelope {
-    ghost use Rattle.outside.specs.EnvelopeLaw.{is_plain_tag-plain_tag};
+    ghost use Rattle.outside.specs.working.EnvelopeLaw.{is_plain_tag-plain_tag};
 
     ghost good = { is_plain_tag };
 

@@ -2,20 +2,21 @@
 ghost use Rattle.std.specs.Prelude.{◌≡◌, ◌↔◌, ◌≤◌, true, length, IsErr, IfOk, OnOk, OnErr};
 ghost use Rattle.outside.specs.declared.faults.DiskStep.{DiskStep};
 ghost use Rattle.outside.specs.Causes.{HasCause};
-ghost use Rattle.outside.specs.Disk.{ReadsAt, overwritten, after_write, step_after};
-ghost use Rattle.outside.specs.MemoryDisk.{disk_content, disk_last_step, disk_plan};
+ghost use Rattle.outside.specs.Disk.{ReadsAt, FailsWrite, content_at_rest, after_write, after_sync, step_after};
+ghost use Rattle.outside.specs.MemoryDisk.{TearsHalf, disk_content, disk_last_step, disk_plan};
 ghost use Rattle.outside.specs.Plan.{IsDue, plan_at_start, plan_after};
 
 use crate::schedule::Schedule;
+use crate::tracked_bytes::TrackedBytes;
 use crate::{Disk, DiskStep, Failed};
-use base_bytes::{Bytes, NoMemory};
+use base_bytes::Bytes;
 use std::alloc::Global;
 
-/// A disk that keeps its bytes in memory. A call fails as planned, and a write also where the bytes find no room.
+/// A disk that keeps its bytes in memory. A call fails as planned, and a write also where its own growth is refused.
 #[derive(Drop)]
 pub struct MemoryDisk {
     alloc: Global,
-    bytes: Bytes,
+    bytes: TrackedBytes,
     last_step: Option<DiskStep>,
     schedule: Schedule,
 }
@@ -23,13 +24,13 @@ pub struct MemoryDisk {
 impl MemoryDisk {
     /// A disk of these bytes, of which the calls with these numbers, from 1, are to fail. Takes no memory.
     pub fn new(alloc: Global, bytes: Bytes, failing: Vec<u64>) -> MemoryDisk
-        ensures content { (disk_content result).reads ≡ bytes }
+        ensures content { disk_content result ≡ content_at_rest bytes }
         ensures step { disk_last_step result ≡ None }
         ensures plan { disk_plan result ≡ plan_at_start failing.items }
     {
         MemoryDisk {
             alloc,
-            bytes,
+            bytes: TrackedBytes::new(alloc, bytes),
             last_step: None,
             schedule: Schedule::new(failing),
         }
@@ -56,29 +57,20 @@ fn fill(bytes: &[u8], at: u64, into: &mut [u8]) -> usize
     count
 }
 
-// The bytes with the piece written over them.
-fn overwrite(alloc: Global, bytes: &[u8], at: usize, piece: &[u8]) -> Result<Bytes, NoMemory>
-    requires { at ≤ length bytes.now }
-    ensures { IfOk result (λ all. all ≡ overwritten bytes.now at piece.now) }
-{
-    let mut all = Bytes::from_slice(alloc, &bytes[..at])?;
-    all.extend(piece)?;
-    if piece.len() < bytes.len() - at {
-        all.extend(&bytes[at + piece.len()..])?;
-    }
-    Ok(all)
-}
-
 impl Disk for MemoryDisk {
     ghost tells = { true };
 
     ghost content = { disk_content };
+
+    ghost honest = { λ disk. true };
 
     ghost faults = { λ disk. (disk_plan disk).faults };
 
     ghost last_step = { disk_last_step };
 
     ghost faults_fit = { λ disk. disk.schedule.faults.fits };
+
+    ghost reads_image = { λ disk told honest. disk.bytes.image };
 
     fn len(&mut self) -> Result<u64, Failed>
         ensures len { IfOk result (λ n. n ≡ length (disk_content self.old).reads) }
@@ -95,7 +87,7 @@ impl Disk for MemoryDisk {
             self.last_step = Some(DiskStep::Read);
             return Err(Failed);
         }
-        Ok(self.bytes.len() as u64)
+        Ok(self.bytes.as_slice().len() as u64)
     }
 
     fn read_at(&mut self, at: u64, into: &mut [u8]) -> Result<usize, Failed>
@@ -120,34 +112,37 @@ impl Disk for MemoryDisk {
     fn write_at(&mut self, at: u64, piece: &[u8]) -> Result<(), Failed>
         requires { at ≤ length (disk_content self.old).reads }
         ensures written { OnOk result (disk_content self.new ≡ after_write at piece.now (disk_content self.old)) }
+        ensures torn { OnErr result (FailsWrite at (length piece.now) (disk_content self.old) (disk_content self.new)) }
         ensures step { disk_last_step self.new ≡ step_after result DiskStep.Write (disk_last_step self.old) }
         ensures cause { HasCause (disk_plan self.old).faults (disk_plan self.new).faults result }
 
-        // It fails at the planned calls, beside these only for want of room, and writes nothing then.
+        // It fails at the planned calls, and has then written the first half of the piece. Beside these it fails only where
+        // its own growth is refused, and does nothing then.
         ensures due { IsDue (disk_plan self.old) → IsErr result }
-        ensures same { OnErr result (disk_content self.new ≡ disk_content self.old) }
+        ensures half { IsDue (disk_plan self.old) → TearsHalf at piece.now (disk_content self.old) (disk_content self.new) }
+        ensures same { ¬ IsDue (disk_plan self.old) → OnErr result (disk_content self.new ≡ disk_content self.old) }
         ensures plan { disk_plan self.new ≡ plan_after result (disk_plan self.old) }
     {
-        if self.schedule.begin() {
+        let due = self.schedule.begin();
+        let front = if due {
+            &piece[..piece.len() / 2]
+        } else {
+            piece
+        };
+        let written = self
+            .bytes
+            .write(self.alloc, at as usize, front, piece.len());
+        if due || written.is_err() {
             self.schedule.fail();
             self.last_step = Some(DiskStep::Write);
             return Err(Failed);
         }
-        match overwrite(self.alloc, self.bytes.as_slice(), at as usize, piece) {
-            Ok(bytes) => {
-                self.bytes = bytes;
-                Ok(())
-            }
-            Err(_) => {
-                self.schedule.fail();
-                self.last_step = Some(DiskStep::Write);
-                Err(Failed)
-            }
-        }
+        Ok(())
     }
 
     fn sync(&mut self) -> Result<(), Failed>
-        ensures content { disk_content self.new ≡ disk_content self.old }
+        ensures synced { OnOk result (disk_content self.new ≡ after_sync (disk_content self.old)) }
+        ensures same { OnErr result (disk_content self.new ≡ disk_content self.old) }
         ensures step { disk_last_step self.new ≡ step_after result DiskStep.Sync (disk_last_step self.old) }
         ensures cause { HasCause (disk_plan self.old).faults (disk_plan self.new).faults result }
 
@@ -160,6 +155,7 @@ impl Disk for MemoryDisk {
             self.last_step = Some(DiskStep::Sync);
             return Err(Failed);
         }
+        self.bytes.sync();
         Ok(())
     }
 }

@@ -10,9 +10,10 @@ use crate::{Failed, Sink};
 use base_bytes::Bytes;
 use std::alloc::Global;
 
-/// A sink that keeps what is written to it. A write fails as planned, and where the bytes find no room.
+/// A sink that keeps what is written to it. A write fails as planned, and where its own growth is refused.
 #[derive(Drop)]
 pub struct MemorySink {
+    alloc: Global,
     bytes: Bytes,
     schedule: Schedule,
 }
@@ -24,6 +25,7 @@ impl MemorySink {
         ensures plan { sink_plan result ≡ plan_at_start failing.items }
     {
         MemorySink {
+            alloc,
             bytes: Bytes::new(alloc),
             schedule: Schedule::new(failing),
         }
@@ -50,7 +52,7 @@ impl Sink for MemorySink {
         ensures written { Some (sink_bytes self.new) ≡ written_after result piece.now (Some (sink_bytes self.old)) }
         ensures cause { HasCause (sink_plan self.old).faults (sink_plan self.new).faults result }
 
-        // It takes the whole piece, and fails at the planned calls; beside these it fails only for want of room.
+        // It takes the whole piece, and fails at the planned calls; beside these it fails only where its own growth is refused.
         ensures whole { IfOk result (λ n. n ≡ length piece.now) }
         ensures due { IsDue (sink_plan self.old) → IsErr result }
         ensures plan { sink_plan self.new ≡ plan_after result (sink_plan self.old) }
@@ -59,7 +61,7 @@ impl Sink for MemorySink {
             self.schedule.fail();
             return Err(Failed);
         }
-        match self.bytes.extend(piece) {
+        match self.bytes.extend(self.alloc, piece) {
             Ok(()) => Ok(piece.len()),
             Err(_) => {
                 self.schedule.fail();

@@ -5,7 +5,7 @@ ghost use Rattle.outside.specs.Sink.{TakesSome, written_after};
 use crate::Failed;
 
 /// Where output goes.
-pub trait Sink {
+pub trait Sink: Drop {
     /// What was written so far, where it is told.
     ghost written: { Self → Option (List ℕ) };
 

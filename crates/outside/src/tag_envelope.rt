@@ -13,7 +13,7 @@ pub struct TagEnvelope;
 
 impl Envelope for TagEnvelope {
     ghost use Rattle.std.proofs.Common.{lit<};
-    ghost use Rattle.outside.specs.EnvelopeLaw.{is_plain_tag-plain_tag};
+    ghost use Rattle.outside.specs.working.EnvelopeLaw.{is_plain_tag-plain_tag};
 
     ghost good = { is_plain_tag };
 

@@ -8,7 +8,7 @@ ghost use Rattle.policy_ast.proofs.grammar.ReadingExpressions.{body_over, condit
 ghost use Rattle.policy_parse.specs.working.Reads.{Reads, part_read};
 
 use crate::expressions::{else_if_expression, expression};
-use crate::parts::{Parsed, built, higher, longer, node, nothing_yet};
+use crate::parts::{Parsed, appended, built, higher, node, nothing_yet};
 use crate::tokens::{after, expect, expect_word, name};
 use crate::unparsed::Unparsed;
 use policy_ast::{ElseExpr, Expr, ExprBlock, IfExpr, Let, Part, Token, symbols};
@@ -70,7 +70,7 @@ fn lets<'a>(alloc: Global, limit: usize, tokens: &'a [Token]) -> Parsed<'a, Item
             return Ok((found, behind));
         }
         let (one, behind) = binding(alloc, limit, rest)?;
-        found = longer(found, one)?;
+        found = appended(found, one)?;
         rest = behind;
     }
     Err(Unparsed::NoMatch)

@@ -7,7 +7,7 @@ ghost use Rattle.policy_ast.proofs.grammar.Reading.{Reader, listed, many};
 ghost use Rattle.policy_parse.specs.working.Reads.{Reads, part_read};
 ghost use Rattle.policy_parse.specs.working.Separators.{StandsBehind};
 
-use crate::parts::{Parsed, longer, nothing_yet};
+use crate::parts::{Parsed, appended, nothing_yet};
 use crate::tokens::{after, expect};
 use crate::unparsed::Unparsed;
 use policy_ast::{Token, symbols};
@@ -57,7 +57,7 @@ pub fn listed<'a, M: Member>(
             return Ok((found, behind));
         }
         let (one, behind) = M::read(alloc, limit, rest)?;
-        found = longer(found, one)?;
+        found = appended(found, one)?;
         match behind_member(close, behind)? {
             Separator::Close(behind) => return Ok((found, behind)),
             Separator::Comma(behind) => rest = behind,
@@ -83,7 +83,7 @@ pub fn many<'a, M: Member>(
             return Ok((found, behind));
         }
         let (one, behind) = M::read(alloc, limit, rest)?;
-        found = longer(found, one)?;
+        found = appended(found, one)?;
         rest = behind;
     }
     Err(Unparsed::NoMatch)

@@ -3,7 +3,7 @@
 ghost use Rattle.std.specs.Prelude.{◌≡◌, ◌<◌, ◌-◌, IfOk, length, max, suc};
 ghost use Rattle.policy_ast.specs.declared.expr.Expr.TheVariants.{Field};
 ghost use Rattle.policy_ast.specs.grammar.Fixed.{dot};
-ghost use Rattle.policy_ast.specs.grammar.Parts.{longer, nothing_yet};
+ghost use Rattle.policy_ast.specs.grammar.Parts.{appended, nothing_yet};
 ghost use Rattle.policy_ast.specs.grammar.Policies.{kinds};
 ghost use Rattle.policy_ast.proofs.grammar.Reading.{built, chain, node_added};
 ghost use Rattle.policy_ast.proofs.grammar.ReadingFields.{read_name};
@@ -71,8 +71,8 @@ pub fn nothing_yet<T: Drop>(alloc: Global) -> Part<Items<T>>
 }
 
 /// A list with one more part at its end.
-pub fn longer<T: Drop>(list: Part<Items<T>>, one: Part<T>) -> Result<Part<Items<T>>, NoMemory>
-    ensures { IfOk result (λ all. all ≡ longer list one) }
+pub fn appended<T: Drop>(list: Part<Items<T>>, one: Part<T>) -> Result<Part<Items<T>>, NoMemory>
+    ensures { IfOk result (λ all. all ≡ appended list one) }
 {
     let mut tree = list.tree;
     tree.push(one.tree)?;

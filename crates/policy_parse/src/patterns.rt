@@ -11,7 +11,7 @@ ghost use Rattle.policy_parse.specs.working.Reads.{Reads, part_read};
 
 use crate::expressions::expression;
 use crate::lists::{Separator, behind_member};
-use crate::parts::{Parsed, higher, longer, nothing_yet, unboxed};
+use crate::parts::{Parsed, appended, higher, nothing_yet, unboxed};
 use crate::tokens::{after, expect, name};
 use crate::unparsed::Unparsed;
 use policy_ast::{Bind, Expr, Free, Part, Pattern, Token, symbols};
@@ -31,7 +31,7 @@ pub fn arguments<'a>(alloc: Global, limit: usize, tokens: &'a [Token]) -> Parsed
             return Ok((found, behind));
         }
         let (one, behind) = expression(alloc, limit, false, rest)?;
-        found = longer(found, unboxed(one))?;
+        found = appended(found, unboxed(one))?;
         match behind_member(symbols::CLOSE_PAREN, behind)? {
             Separator::Close(behind) => return Ok((found, behind)),
             Separator::Comma(behind) => rest = behind,
@@ -58,7 +58,7 @@ pub fn binds<'a>(
             return Ok((found, behind));
         }
         let (one, behind) = bind(alloc, limit, rest)?;
-        found = longer(found, one)?;
+        found = appended(found, one)?;
         match behind_member(close, behind)? {
             Separator::Close(behind) => return Ok((found, behind)),
             Separator::Comma(behind) => rest = behind,
@@ -127,7 +127,7 @@ fn frees<'a>(
             return Ok((found, behind));
         }
         let (one, behind) = free(alloc, limit, rest)?;
-        found = longer(found, one)?;
+        found = appended(found, one)?;
         match behind_member(close, behind)? {
             Separator::Close(behind) => return Ok((found, behind)),
             Separator::Comma(behind) => rest = behind,

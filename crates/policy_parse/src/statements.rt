@@ -15,7 +15,7 @@ use crate::arms::arm_pattern;
 use crate::expressions::expression;
 use crate::finish::finish_block;
 use crate::if_expressions::binding;
-use crate::parts::{Parsed, higher, longer, node, nothing_yet, unboxed};
+use crate::parts::{Parsed, appended, higher, node, nothing_yet, unboxed};
 use crate::patterns::pattern;
 use crate::tokens::{after, after_word, expect, expect_word, name};
 use crate::unparsed::Unparsed;
@@ -165,7 +165,7 @@ fn statements<'a>(alloc: Global, limit: usize, tokens: &'a [Token]) -> Parsed<'a
             return Ok((found, behind));
         }
         let (one, behind) = statement(alloc, limit, rest)?;
-        found = longer(found, unboxed(one))?;
+        found = appended(found, unboxed(one))?;
         rest = behind;
     }
     Err(Unparsed::NoMatch)
@@ -198,7 +198,7 @@ fn arms<'a>(alloc: Global, limit: usize, tokens: &'a [Token]) -> Parsed<'a, Item
             return Ok((found, behind));
         }
         let (one, behind) = arm(alloc, limit, rest)?;
-        found = longer(found, one)?;
+        found = appended(found, one)?;
         rest = behind;
     }
     Err(Unparsed::NoMatch)

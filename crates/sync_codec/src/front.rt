@@ -17,23 +17,29 @@ pub const PLACES: u32 = 65536;
 /// The most ids of a sample.
 const IDS: u8 = 32;
 
-pub fn write_front(into: &mut Bytes, graph: &Id, sample: &Ids, from: u32) -> Result<(), NoMemory>
+pub fn write_front(
+    alloc: Global,
+    into: &mut Bytes,
+    graph: &Id,
+    sample: &Ids,
+    from: u32,
+) -> Result<(), NoMemory>
     requires { length sample.now ≤ 32 }
     ensures told { OnOk result (into.new ≡ into.old ++ front graph.now sample.now from) }
     ensures ids { OnOk result (HaveIds graph.now sample.now) }
 {
-    into.extend(graph.as_slice())?;
-    into.extend(&(sample.len() as u8).to_be_bytes())?;
-    write_ids(into, sample.as_slice())?;
-    into.extend(&from.to_be_bytes())
+    into.extend(alloc, graph.as_slice())?;
+    into.extend(alloc, &(sample.len() as u8).to_be_bytes())?;
+    write_ids(alloc, into, sample.as_slice())?;
+    into.extend(alloc, &from.to_be_bytes())
 }
 
-fn write_ids(into: &mut Bytes, ids: &[Id]) -> Result<(), NoMemory>
+fn write_ids(alloc: Global, into: &mut Bytes, ids: &[Id]) -> Result<(), NoMemory>
     ensures told { OnOk result (into.new ≡ into.old ++ concat (map (λ id. id) ids.now)) }
     ensures sizes { OnOk result (All (λ id. length id ≡ 32) ids.now) }
 {
     for id in ids {
-        into.extend(id.as_slice())?;
+        into.extend(alloc, id.as_slice())?;
     }
     Ok(())
 }
@@ -62,7 +68,7 @@ fn repeat_id(alloc: Global, count: u8, reader: &mut Reader) -> Result<Ids, Unrea
 {
     let mut ids = Ids::new(alloc);
     for _ in 0..count {
-        ids.push(reader.id()?)?;
+        ids.push(alloc, reader.id()?)?;
     }
     Ok(ids)
 }

@@ -26,8 +26,8 @@ impl Request {
         ensures { IfOk result (λ bytes. IsRequest self.now bytes) }
     {
         let mut bytes = Bytes::new(alloc);
-        bytes.extend(&[VERSION, REQUEST])?;
-        write_front(&mut bytes, &self.graph, &self.sample, self.from)?;
+        bytes.extend(alloc, &[VERSION, REQUEST])?;
+        write_front(alloc, &mut bytes, &self.graph, &self.sample, self.from)?;
         Ok(bytes)
     }
 

@@ -36,10 +36,10 @@ impl Response {
         ensures { IfOk result (λ bytes. IsResponse self.now bytes) }
     {
         let mut bytes = Bytes::new(alloc);
-        bytes.extend(&[VERSION, RESPONSE])?;
-        write_front(&mut bytes, &self.graph, &self.sample, self.from)?;
-        bytes.push(if self.more { 1 } else { 0 })?;
-        bytes.extend(&(self.commands.len() as u8).to_be_bytes())?;
+        bytes.extend(alloc, &[VERSION, RESPONSE])?;
+        write_front(alloc, &mut bytes, &self.graph, &self.sample, self.from)?;
+        bytes.push(alloc, if self.more { 1 } else { 0 })?;
+        bytes.extend(alloc, &(self.commands.len() as u8).to_be_bytes())?;
         write_commands(alloc, &mut bytes, self.commands.as_slice())?;
         Ok(bytes)
     }
@@ -70,8 +70,8 @@ fn write_command(alloc: Global, into: &mut Bytes, command: &Command) -> Result<(
     ensures form { OnOk result (IsWire command.now (wire command.now)) }
 {
     let bytes = command::to_bytes(alloc, command)?;
-    into.extend(&(bytes.len() as u32).to_be_bytes())?;
-    into.extend(bytes.as_slice())
+    into.extend(alloc, &(bytes.len() as u32).to_be_bytes())?;
+    into.extend(alloc, bytes.as_slice())
 }
 
 fn read_whole(alloc: Global, bytes: &[u8]) -> Result<Response, Unread>
@@ -128,7 +128,7 @@ fn repeat_command(alloc: Global, count: u8, reader: &mut Reader) -> Result<Comma
 {
     let mut commands = Commands::new(alloc);
     for _ in 0..count {
-        commands.push(read_counted(alloc, reader)?)?;
+        commands.push(alloc, read_counted(alloc, reader)?)?;
     }
     Ok(commands)
 }

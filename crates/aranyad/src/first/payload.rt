@@ -6,22 +6,22 @@ use std::alloc::Global;
 
 /// Adds an int field: eight bytes in two's complement, the highest first.
 #[tactic(auto, unfolding(crate::specs::first::Payload::int_bytes))]
-fn push_int(bytes: &mut Bytes, value: i64) -> Result<(), NoMemory>
+fn push_int(alloc: Global, bytes: &mut Bytes, value: i64) -> Result<(), NoMemory>
     ensures { OnOk result (bytes.new ≡ bytes.old ++ int_bytes value) }
 {
-    bytes.extend(&value.to_be_bytes())
+    bytes.extend(alloc, &value.to_be_bytes())
 }
 
 /// Adds int fields, one after another.
-fn push_ints(bytes: &mut Bytes, values: &[i64]) -> Result<(), NoMemory>
+fn push_ints(alloc: Global, bytes: &mut Bytes, values: &[i64]) -> Result<(), NoMemory>
     ensures added { OnOk result (bytes.new ≡ bytes.old ++ payload_of values.now) }
     ensures read { OnOk result (fields_of (length values.now) (payload_of values.now) ≡ Some values.now) }
 {
     match values {
         [] => Ok(()),
         [first, values @ ..] => {
-            push_int(bytes, *first)?;
-            push_ints(bytes, values)
+            push_int(alloc, bytes, *first)?;
+            push_ints(alloc, bytes, values)
         }
     }
 }
@@ -32,6 +32,6 @@ pub fn payload_of(alloc: Global, values: &[i64]) -> Result<Bytes, NoMemory>
     ensures read { IfOk result (λ bytes. fields_of (length values.now) bytes ≡ Some values.now) }
 {
     let mut bytes = Bytes::new(alloc);
-    push_ints(&mut bytes, values)?;
+    push_ints(alloc, &mut bytes, values)?;
     Ok(bytes)
 }

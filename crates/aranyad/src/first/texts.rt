@@ -10,11 +10,11 @@ use base_bytes::{Bytes, NoMemory, Text};
 use std::alloc::Global;
 
 /// Adds the parts of a text, one after another.
-fn push_all(into: &mut Bytes, parts: &[&str]) -> Result<(), NoMemory>
+fn push_all(alloc: Global, into: &mut Bytes, parts: &[&str]) -> Result<(), NoMemory>
     ensures { OnOk result (into.new ≡ into.old ++ concat (map (λ part. part.now) parts.now)) }
 {
     for part in parts {
-        into.extend(part.as_bytes())?;
+        into.extend(alloc, part.as_bytes())?;
     }
     Ok(())
 }
@@ -24,7 +24,7 @@ pub fn joined(alloc: Global, parts: &[&str]) -> Result<Bytes, NoMemory>
     ensures { IfOk result (λ text. text ≡ concat (map (λ part. part.now) parts.now)) }
 {
     let mut text = Bytes::new(alloc);
-    push_all(&mut text, parts)?;
+    push_all(alloc, &mut text, parts)?;
     Ok(text)
 }
 
@@ -51,7 +51,7 @@ pub fn published_text(
     let held = held.to_string(alloc)?;
     let mut text = joined(alloc, &[verb, " ", name.as_str()])?;
     let counts = ": published 1, merges 0, cut ";
-    push_all(&mut text, &[counts, held.as_str(), ", entries 1\n"])?;
+    push_all(alloc, &mut text, &[counts, held.as_str(), ", entries 1\n"])?;
     Ok(text)
 }
 
@@ -62,15 +62,15 @@ fn push_reason(alloc: Global, into: &mut Bytes, why: &Refusal) -> Result<(), NoM
     match why {
         Refusal::Collides(id) => {
             let hex = hex::encode(alloc, id.as_slice())?;
-            push_all(into, &["collision ", hex.as_str()])
+            push_all(alloc, into, &["collision ", hex.as_str()])
         }
-        Refusal::Check(command) => push_all(into, &["command ", command.as_str(), ": check"]),
+        Refusal::Check(command) => push_all(alloc, into, &["command ", command.as_str(), ": check"]),
         Refusal::Exists(command) => push_all(
-            into,
+            alloc, into,
             &["command ", command.as_str(), ": fault exists"],
         ),
-        Refusal::NoGraph => push_all(into, &["no graph"]),
-        Refusal::UnknownAction => push_all(into, &["unknown action"]),
+        Refusal::NoGraph => push_all(alloc, into, &["no graph"]),
+        Refusal::UnknownAction => push_all(alloc, into, &["unknown action"]),
     }
 }
 
@@ -85,7 +85,7 @@ pub fn refused_text(
 {
     let mut text = joined(alloc, &[verb, " ", name.as_str(), ": refused "])?;
     push_reason(alloc, &mut text, why)?;
-    text.extend(b"\n")?;
+    text.extend(alloc, b"\n")?;
     Ok(text)
 }
 
@@ -99,7 +99,7 @@ fn push_row(alloc: Global, into: &mut Bytes, fact: &Fact, row: &Row) -> Result<(
     let key = fact.key.as_str();
     let value = fact.value.as_str();
     push_all(
-        into,
+        alloc, into,
         &[
             "  ",
             name,

@@ -1,10 +1,9 @@
 -- What the readers answer, as contracts of private functions see it.
 use Rattle.std.specs.Prelude.{◌≡◌, List, Option, Some, None, Result, Ok, Err, ⊤}
 use Rattle.std.specs.Borrow.{Bor}
-use Rattle.policy_ast.specs.declared.item.Item.{Item}
 use Rattle.policy_ast.specs.declared.part.Part.{Part}
 use Rattle.policy_ast.specs.declared.token.Token.{Token}
-use Rattle.policy_ast.specs.grammar.Parts.{Tokens, part}
+use Rattle.policy_ast.specs.grammar.Parts.{Kinds, part}
 use Rattle.policy_ast.specs.grammar.Policies.{kinds}
 use Rattle.base_bytes.specs.declared.no_memory.NoMemory.{NoMemory}
 use Rattle.policy_parse.specs.declared.unparsed.Unparsed.{Unparsed}
@@ -23,25 +22,21 @@ or_none (Err unparsed.NoMatch) = Ok None
 or_none (Err unparsed.NoMemory) = Err (record {})
 
 -- what was read, with the kinds of the tokens that are left: a part
-abbrev pub part_read : {A : Type 0} → Part A × Bor (List Token) → Part A × Tokens
+abbrev pub part_read : {A : Type 0} → Part A × Bor (List Token) → Part A × Kinds
 part_read p = (p.0, kinds p.1.now)
 
 -- what is no node
-abbrev pub leaf_read : {A : Type 0} → A × Bor (List Token) → Part A × Tokens
+abbrev pub leaf_read : {A : Type 0} → A × Bor (List Token) → Part A × Kinds
 leaf_read p = (part p.0 0, kinds p.1.now)
 
 -- an operator
-abbrev pub operator_read : {A : Type 0} → A × Bor (List Token) → A × Tokens
+abbrev pub operator_read : {A : Type 0} → A × Bor (List Token) → A × Kinds
 operator_read p = (p.0, kinds p.1.now)
 
 -- fixed tokens
-abbrev pub fixed_read : Bor (List Token) → Part Unit × Tokens
+abbrev pub fixed_read : Bor (List Token) → Part Unit × Kinds
 fixed_read rest = (part tt 0, kinds rest.now)
 
 -- one fixed token
-abbrev pub token_read : Bor (List Token) → Tokens
+abbrev pub token_read : Bor (List Token) → Kinds
 token_read rest = kinds rest.now
-
--- items, and the kinds of the tokens that are left
-abbrev pub run_seen : List Item × Bor (List Token) → List Item × Tokens
-run_seen run = (run.0, kinds run.1.now)

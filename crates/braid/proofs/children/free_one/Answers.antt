@@ -1,5 +1,5 @@
 use Rattle.std.proofs.Common.{ℕ, List, [], ◌∷◌, sym, subst, ◌∙◌}
-use Rattle.braid.specs.Working.{AddsWhere, HasChild}
+use Rattle.braid.specs.working.Placing.{AddsWhere, HasChild}
 use Rattle.braid.proofs.Additions.{adds_nowhere, adds_one}
 use Rattle.braid.proofs.children.free_one.Goals as goal
 

@@ -1,5 +1,5 @@
 use Rattle.std.proofs.Common.{take}
-use Rattle.braid.specs.Working.{HasChild}
+use Rattle.braid.specs.working.Placing.{HasChild}
 use Rattle.braid.proofs.children.has_child.Given as goal
 
 abbrev pub invariant-loop-place : goal.invariant-loop-place

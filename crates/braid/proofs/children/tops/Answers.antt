@@ -2,7 +2,7 @@ use Rattle.std.proofs.Common.{◌≡◌, ℕ, ◌+◌, ◌<◌, ◌⊎◌, ◌�
 use Rattle.std.specs.List.{Contains}
 use Rattle.std.proofs.lemmas.List.{take_all}
 use Rattle.std.proofs.lemmas.List.Elements.{Contains-append_left, Contains-push, Contains-push_cases}
-use Rattle.braid.specs.Working.{IsFree}
+use Rattle.braid.specs.working.Placing.{IsFree}
 use Rattle.braid.proofs.Gathering.{take_next}
 use Rattle.braid.proofs.children.tops.Goals as goal
 

@@ -1,6 +1,6 @@
 use Rattle.std.proofs.Common.{ℕ, ◌↔◌, take}
 use Rattle.std.specs.List.{Contains}
-use Rattle.braid.specs.Working.{IsFree}
+use Rattle.braid.specs.working.Placing.{IsFree}
 use Rattle.braid.proofs.children.tops.Given as goal
 
 abbrev pub invariant-loop-place : goal.invariant-loop-place

@@ -1,6 +1,6 @@
 use Rattle.std.proofs.Common.{ℕ, List, [], ◌∷◌, sym, subst}
 use Rattle.command.specs.Kinds.{parents_of}
-use Rattle.braid.specs.Working.{AddsWhere}
+use Rattle.braid.specs.working.Placing.{AddsWhere}
 use Rattle.braid.proofs.Additions.{adds_both}
 use Rattle.braid.proofs.closure.add_parents.Goals as goal
 

@@ -3,7 +3,7 @@ use Rattle.std.specs.Option.{IfSome}
 use Rattle.std.specs.Ordering.{ordering_index}
 use Rattle.std.specs.declared.cmp.Ordering.{Ordering}
 use Rattle.std.specs.declared.cmp.Ordering.TheVariants.{Less, Equal, Greater}
-use Rattle.braid.specs.Working.{IsBest}
+use Rattle.braid.specs.working.Placing.{IsBest}
 use Rattle.braid.proofs.PickOrder.{new_first, only_first}
 use Rattle.braid.proofs.lowest.first_of.Goals as goal
 

@@ -1,5 +1,5 @@
 use Rattle.std.proofs.Common.{subst, sym}
-use Rattle.braid.specs.Working.{IsFirst}
+use Rattle.braid.specs.working.Placing.{IsFirst}
 use Rattle.braid.proofs.Gathering.{take_next}
 use Rattle.braid.proofs.lowest.lowest.Goals as goal
 

@@ -1,6 +1,6 @@
 use Rattle.std.proofs.Common.{◌<◌, length, take}
 use Rattle.std.specs.Option.{IfSome}
-use Rattle.braid.specs.Working.{IsBest}
+use Rattle.braid.specs.working.Placing.{IsBest}
 use Rattle.braid.proofs.lowest.lowest.Given as goal
 
 abbrev pub invariant-loop-place : goal.invariant-loop-place

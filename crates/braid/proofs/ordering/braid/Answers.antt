@@ -4,7 +4,7 @@ use Rattle.std.proofs.lemmas.List.Elements.{All-contains, All-nil}
 use Rattle.command.specs.Ancestors.{IsUnder}
 use Rattle.command.specs.declared.command.Command.{Command}
 use Rattle.braid.specs.Braids.{IsBraidUnder, picked}
-use Rattle.braid.specs.Working.{IsAmong, IsBest, IsFirst, IsFree, Placing}
+use Rattle.braid.specs.working.Placing.{IsAmong, IsBest, IsFirst, IsFree, Placing}
 use Rattle.braid.proofs.Gathering.{all_of}
 use Rattle.braid.proofs.Places.{reversed_all, struck_shorter}
 use Rattle.braid.proofs.Progress.{began, whole}

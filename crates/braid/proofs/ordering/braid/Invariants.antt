@@ -1,5 +1,5 @@
 use Rattle.std.proofs.Common.{length}
-use Rattle.braid.specs.Working.{Placing}
+use Rattle.braid.specs.working.Placing.{Placing}
 use Rattle.braid.proofs.ordering.braid.Given as goal
 
 abbrev pub invariant-loop-place : goal.invariant-loop-place

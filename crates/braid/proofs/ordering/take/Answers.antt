@@ -3,7 +3,7 @@ use Rattle.std.specs.List.{All}
 use Rattle.std.proofs.lemmas.List.Elements.{All-filter, All-push}
 use Rattle.command.specs.declared.command.Command.{Command}
 use Rattle.command.specs.Kinds.{parents_of}
-use Rattle.braid.specs.Working.{AddsWhere, HasChild, Placing, struck}
+use Rattle.braid.specs.working.Placing.{AddsWhere, HasChild, Placing, struck}
 use Rattle.braid.proofs.Progress.{take_merge, take_plain}
 use Rattle.braid.proofs.ordering.take.Goals as goal
 

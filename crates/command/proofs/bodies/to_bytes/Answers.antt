@@ -8,15 +8,15 @@ returns-clause-form c = record {
   in_form = c.requires;
   front = c.in_ok-write.ensures.front;
   tag = c.in_ok-write.ensures.tag;
-  spelled = c.in_ok-write.ensures.told.more [] c.new-bytes.ensures;
+  spelled = c.in_ok-write.ensures.told.more [] c.new-out.ensures;
 }
 
 pub returns-clause-size : goal.returns-clause-size
 returns-clause-size c =
-    let told : IsWire c.args.command.now c.write.new.out = record {
+    let told : IsWire c.args.command.now c.write.new.out.bytes = record {
       in_form = c.requires;
       front = c.in_ok-write.ensures.front;
       tag = c.in_ok-write.ensures.tag;
-      spelled = c.in_ok-write.ensures.told.more [] c.new-bytes.ensures;
+      spelled = c.in_ok-write.ensures.told.more [] c.new-out.ensures;
     } in
-    wire_within c.args.command.now c.write.new.out told
+    wire_within c.args.command.now c.write.new.out.bytes told

@@ -1,7 +1,7 @@
 use Rattle.std.proofs.Common.{ap, is_eq, sym, ◌∙◌}
 use Rattle.std.specs.Cmp.{tied_itself}
 use Rattle.base_bytes.specs.KeyOrder.{key_order}
-use Rattle.fact_store.specs.Orders.{key_order_total}
+use Rattle.fact_store.specs.working.Orders.{key_order_total}
 use Rattle.fact_store.proofs.Places.{key_ties}
 use Rattle.fact_store.proofs.Sameness.{same_value_decides}
 use Rattle.fact_store.proofs.laws.sameness_is_equality.Goals as goal

@@ -9,7 +9,7 @@ use Rattle.command.specs.Closed.{IsClosed}
 use Rattle.command.specs.Wire.{command_id}
 use Rattle.command.proofs.PlaceFacts.{cut_at, inside_at, none_before, older_first, take_one_more}
 use Rattle.command.proofs.ReachFacts.{AreReached, ancestor_is_reached, goes_on, only_own, reached_is_ancestor}
-use Rattle.graph_set.specs.Held.{GoesOn, has_parent_among}
+use Rattle.graph_set.specs.working.Held.{GoesOn, has_parent_among}
 use Rattle.graph_set.proofs.list_graph.ListGraphGraph.is_ancestor.Goals as goal
 
 first_key : (old new : List (List ℕ)) (id : List ℕ) → old ≡ [] → new ≡ insert_key bytes_eq old id → new ≡ id ∷ []

@@ -1,0 +1,10 @@
+-- What contracts see of bytes that are tracked since the last sync.
+use Rattle.std.specs.Prelude.{reverse}
+use Rattle.outside.specs.Disk.{Content}
+use Rattle.outside.specs.working.Replaced.{moment_after}
+use Rattle.outside.specs.declared.tracked_bytes.TrackedBytes.{TrackedBytes}
+
+-- their content, as a disk's
+abbrev pub tracked_content : TrackedBytes → Content
+tracked_content tracked =
+    record { reads = tracked.bytes.items; now = moment_after (reverse tracked.writes.items) tracked.bytes.items }
