@@ -1,7 +1,7 @@
 //! Operators, and the words that are used like them.
 
 ghost use Rattle.std.specs.Prelude.{◌≡◌, option_map};
-ghost use Rattle.policy_ast.specs.grammar.Fixed.{arithmetic_token, comparison_token, count_token, presence_token, sign_token};
+ghost use Rattle.policy_ast.specs.grammar.Fixed.{arithmetic_token, comparison_token, count_token, presence_token, unary_token};
 ghost use Rattle.policy_ast.specs.grammar.Policies.{kinds};
 ghost use Rattle.policy_ast.proofs.grammar.Reading.{operator};
 ghost use Rattle.policy_ast.proofs.grammar.ReadingExpressions.{arithmetics, comparisons, counts, presences, signs};
@@ -49,7 +49,7 @@ pub fn presence(tokens: &[Token]) -> Result<(Presence, &[Token]), Unparsed>
 
 /// The sign before an operand.
 pub fn sign(tokens: &[Token]) -> Option<(Unary, &[Token])>
-    ensures { option_map operator_read result ≡ operator sign_token signs (kinds tokens.now) }
+    ensures { option_map operator_read result ≡ operator unary_token signs (kinds tokens.now) }
 {
     if let Some(rest) = after(symbols::NOT, tokens) {
         return Some((Unary::Not, rest));

@@ -5,7 +5,7 @@ ghost use Rattle.std.specs.Prelude.{◌<◌, ◌-◌, suc};
 ghost use Rattle.policy_ast.specs.declared.statement.Stmt.TheVariants.{Let};
 ghost use Rattle.policy_ast.specs.grammar.Fixed.{close_brace};
 ghost use Rattle.policy_ast.specs.grammar.Policies.{kinds};
-ghost use Rattle.policy_ast.specs.grammar.Statements.{conditional, statement};
+ghost use Rattle.policy_ast.specs.grammar.Statements.{if_statement, statement};
 ghost use Rattle.policy_ast.proofs.grammar.Reading.{built, making, many};
 ghost use Rattle.policy_ast.proofs.grammar.ReadingExpressions.{let_over, read_expr};
 ghost use Rattle.policy_ast.proofs.grammar.ReadingStatements.{arm_over, block_over, else_over, if_over, map_over, match_over, read_stmt, stmt_over};
@@ -39,7 +39,7 @@ fn statement<'a>(alloc: Global, depth: usize, tokens: &'a [Token]) -> Parsed<'a,
 #[tactic(auto, using(crate::proofs::Steps::stmt_step, crate::proofs::Steps::stmt_none))]
 #[cycle(stmt)]
 fn else_if_stmt<'a>(alloc: Global, depth: usize, tokens: &'a [Token]) -> Parsed<'a, Boxed<Stmt>>
-    ensures { Reads part_read result (read_stmt depth conditional (kinds tokens.now)) }
+    ensures { Reads part_read result (read_stmt depth if_statement (kinds tokens.now)) }
 {
     if depth == 0 {
         return Err(Unparsed::NoMatch);
