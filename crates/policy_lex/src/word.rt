@@ -8,11 +8,11 @@ use policy_ast::TokenKind;
 use std::alloc::Global;
 
 /// The word that bytes begin with, and how many bytes it takes.
-#[tactic(auto, using(crate::proofs::WordRuns::no_word))]
+#[tactic(auto, using(policy_ast::proofs::TokenPrefixes::no_word))]
 pub fn word_at(alloc: Global, bytes: &[u8]) -> Result<Option<(TokenKind, usize)>, NoMemory>
     ensures word { IfOk result (λ o. o ≡ word_at bytes.now) }
-    ensures some { IfOk result (λ o. IfSome o (λ piece. 0 < piece.1)) }
-    ensures within { IfOk result (λ o. IfSome o (λ piece. piece.1 ≤ length bytes.now)) }
+    ensures some { IfOk result (λ o. IfSome o (λ token. 0 < token.1)) }
+    ensures within { IfOk result (λ o. IfSome o (λ token. token.1 ≤ length bytes.now)) }
 {
     if begins_with_letter(bytes) {
         run_at(alloc, bytes)
@@ -34,8 +34,8 @@ fn begins_with_letter(bytes: &[u8]) -> bool
 #[tactic(auto, unfolding(policy_ast::specs::TokenForms::word_at))]
 fn run_at(alloc: Global, bytes: &[u8]) -> Result<Option<(TokenKind, usize)>, NoMemory>
     ensures word { IfOk result (λ o. o ≡ word_at bytes.now) }
-    ensures some { IfOk result (λ o. IfSome o (λ piece. 0 < piece.1)) }
-    ensures within { IfOk result (λ o. IfSome o (λ piece. piece.1 ≤ length bytes.now)) }
+    ensures some { IfOk result (λ o. IfSome o (λ token. 0 < token.1)) }
+    ensures within { IfOk result (λ o. IfSome o (λ token. token.1 ≤ length bytes.now)) }
 {
     let run = &bytes[..word_length(bytes)];
     if !is_word(run) {
