@@ -1,9 +1,9 @@
 ghost use Rattle.std.specs.Prelude.{◌≡◌, ◌<◌, ◌≤◌, IfOk, IfSome, length};
 ghost use Rattle.std.specs.List.{take_while};
-ghost use Rattle.base_bytes.specs.Words.{begins_with_letter, is_word_byte};
+ghost use Rattle.base_bytes.specs.Words.{is_word_byte};
 ghost use Rattle.policy_ast.specs.TokenForms.{word_at};
 
-use base_bytes::{NoMemory, Text, is_word};
+use base_bytes::{NoMemory, Text, begins_with_letter, is_word};
 use policy_ast::TokenKind;
 use std::alloc::Global;
 
@@ -18,15 +18,6 @@ pub fn word_at(alloc: Global, bytes: &[u8]) -> Result<Option<(TokenKind, usize)>
         run_at(alloc, bytes)
     } else {
         Ok(None)
-    }
-}
-
-fn begins_with_letter(bytes: &[u8]) -> bool
-    ensures { result ≡ begins_with_letter bytes.now }
-{
-    match bytes {
-        [first, ..] => first.is_ascii_alphabetic(),
-        [] => false,
     }
 }
 
