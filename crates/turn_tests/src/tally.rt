@@ -8,10 +8,10 @@ use turn_lock::{Kept, NoMemory};
 /// A counter that keeps its turns.
 #[derive(Drop)]
 pub struct Tally {
-    start: u64,
-    count: u64,
-    turns: Vec<Turn>,
-    idle: u64,
+    pub start: u64,
+    pub count: u64,
+    pub turns: Vec<Turn>,
+    pub idle: u64,
     ghost counted: { count ≡ counted start turns.items },
     ghost legal: { is_legal start turns.items ≡ true },
 }
