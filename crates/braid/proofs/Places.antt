@@ -44,28 +44,6 @@ struck_has place (p ∷ places) q h differs =
       | inr later ↦ kept_behind (p == place) p q (struck place places) (struck_has place places q later differs)
     ]
 
-length-cond : (b : Bool) (p : ℕ) (more : List ℕ) → length (cond (not b) (p ∷ more) more) ≤ length more + 1
-length-cond true p more = omega arith
-length-cond false p more = omega arith
-
-length-gone : (b : Bool) (p : ℕ) (more : List ℕ) → b ≡ true → length (cond (not b) (p ∷ more) more) ≤ length more
-length-gone true p more is = omega arith
-length-gone false p more is = absurd cc
-
-no_longer : (place : ℕ) (places : List ℕ) → length (struck place places) ≤ length places
-no_longer place [] = omega arith
-no_longer place (p ∷ places) = let more = no_longer place places in let one = length-cond (p == place) p (struck place places) in omega (arith, more, one)
-
-pub struck_shorter : (place : ℕ) (places : List ℕ) → Contains places place → length (struck place places) < length places
-struck_shorter place [] h = absurd (none_element place h)
-struck_shorter place (p ∷ places) h =
-    elim (head_cases p places place h) [
-      | inl same ↦
-          let one = length-gone (p == place) p (struck place places) ((Decides-eqb p place).1 same) in
-          let more = no_longer place places in omega (arith, one, more)
-      | inr later ↦ let more = struck_shorter place places later in let one = length-cond (p == place) p (struck place places) in omega (arith, more, one)
-    ]
-
 -- the command at the first place
 pub picked_more : (cs : List Command) (place : ℕ) (places : List ℕ) (x : Command) → IsAt cs place x → picked cs (place ∷ places) ≡ x ∷ picked cs places
 picked_more cs place places x at = rw at refl
