@@ -1,16 +1,13 @@
 -- What is taken first.
-use Rattle.std.proofs.Common.{◌≡◌, ℕ, ◌<◌, ◌⊎◌, inl, inr, true, false, List, [], ◌∷◌, ◌++◌, length, Some, refl, sym, subst, ◌∙◌, arith, get_or}
-use Rattle.std.specs.List.{Contains}
+use Rattle.std.proofs.Common.{◌≡◌, ℕ, ◌<◌, true, false, List, [], ◌∷◌, length, Some, refl, sym, ◌∙◌, arith, get_or}
 use Rattle.std.specs.Cmp.{IsTotalOrder, bool_cmp_total}
 use Rattle.std.proofs.lemmas.Cmp.{back_total, on_total, then_total, tied_itself}
-use Rattle.std.proofs.lemmas.List.Elements.{Contains-append_left, Contains-push, Contains-push_cases}
 use Rattle.std.proofs.lemmas.Option.{slice_get-get_or}
 use Rattle.command.specs.declared.command.Command.{Command}
 use Rattle.command.specs.Ancestors.{IsAt}
 use Rattle.command.specs.Kinds.{is_merge}
-use Rattle.command.proofs.ListFacts.{none_element}
 use Rattle.braid.specs.Lower.{IsLower}
-use Rattle.braid.specs.working.Placing.{IsAmong, IsBefore, IsFirst, pick_order}
+use Rattle.braid.specs.working.Placing.{IsBefore, pick_order}
 use Rattle.braid.proofs.Order.{rank_from_lower, rank_total}
 
 pick_total : IsTotalOrder pick_order

@@ -109,11 +109,7 @@ fn lowest_top<G: Graph>(
 }
 
 /// The braid of the tips' closure, by the rule.
-pub fn plain_braid<G: Graph>(
-    alloc: Global,
-    graph: &G,
-    tips: &[usize],
-) -> Result<Places, NoMemory> {
+pub fn plain_braid<G: Graph>(alloc: Global, graph: &G, tips: &[usize]) -> Result<Places, NoMemory> {
     let mut remaining = closure(alloc, graph, tips)?;
     let mut placed = Places::new(alloc);
     for _ in 0..graph.len() {

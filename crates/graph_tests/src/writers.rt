@@ -32,11 +32,7 @@ fn next_step(draws: &mut Draws, own: usize, other: usize, place: usize) -> Step 
     match draws.below(8) {
         0 if own > 0 && own != other => Step::Merge(own, other),
         1 => Step::Finalize(own, payload),
-        _ => Step::Basic(
-            u32::try_from(draws.below(4)).unwrap_or(0),
-            own,
-            payload,
-        ),
+        _ => Step::Basic(u32::try_from(draws.below(4)).unwrap_or(0), own, payload),
     }
 }
 

@@ -1,5 +1,5 @@
 -- What the steps of the braid's body keep. This serves the contracts of its private functions; what a braid is stands in Braids.
-use Rattle.std.specs.Prelude.{◌≡◌, ℕ, ◌==◌, ◌<◌, ◌⊎◌, ◌↔◌, not, Bool, true, false, List, [], ◌++◌, length, reverse, Option, Some, None, filter}
+use Rattle.std.specs.Prelude.{◌≡◌, ℕ, ◌==◌, ◌<◌, ◌⊎◌, ◌↔◌, not, Bool, true, false, List, ◌++◌, length, reverse, Some, filter}
 use Rattle.std.specs.List.{All, Contains, list_any}
 use Rattle.std.specs.Cmp.Lexicographic.{slice_cmp}
 use Rattle.std.specs.Ordering.{bool_cmp, nat_cmp, ordering_then}
