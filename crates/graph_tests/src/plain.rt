@@ -63,20 +63,19 @@ fn closure<G: Graph>(alloc: Global, graph: &G, tips: &[usize]) -> Result<Vec<usi
 
 /// Whether the first command is lower than the second, where neither is a merge.
 fn is_lower<G: Graph>(graph: &G, one: usize, other: usize) -> bool {
-    match (command_at(graph, one), command_at(graph, other)) {
-        (Some(x), Some(y)) => {
-            let order = x
-                .is_finalize()
-                .cmp(&y.is_finalize())
-                .then(x.priority().cmp(&y.priority()));
-            if order == Ordering::Equal {
-                graph.id_at(one) > graph.id_at(other)
-            } else {
-                order == Ordering::Less
-            }
-        }
-        _ => false,
+    if one >= graph.len() {
+        return false;
     }
+    if other >= graph.len() {
+        return false;
+    }
+    let (x, y) = (graph.at(one), graph.at(other));
+    let order = x
+        .is_finalize()
+        .cmp(&y.is_finalize())
+        .then(x.priority().cmp(&y.priority()))
+        .then(graph.id_at(other).cmp(&graph.id_at(one)));
+    order == Ordering::Less
 }
 
 /// The lower one of a place and the best so far.
