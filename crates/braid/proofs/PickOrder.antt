@@ -13,9 +13,6 @@ use Rattle.braid.proofs.Order.{rank_from_lower, rank_total}
 pick_total : IsTotalOrder pick_order
 pick_total = then_total (on_total is_merge (back_total bool_cmp_total)) rank_total
 
-pub before_trans : (x y z : Command) → IsBefore x y → IsBefore y z → IsBefore x z
-before_trans x y z = pick_total.trans x y z
-
 pub not_before_itself : (x : Command) → IsBefore x x → ⊥
 not_before_itself x h = let t = tied_itself pick_total x in absurd cc
 

@@ -83,7 +83,7 @@ fn tops<G: Graph>(
     Ok(heap)
 }
 
-/// Places the command of a turn in front of the others, unless it is a merge.
+/// Puts the place of a turn's command behind those that are placed, unless it is a merge. The last of the braid comes first there.
 fn put(alloc: Global, turn: &Turn, placed: &mut Places) -> Result<(), NoMemory>
     ensures { OnOk result (placed.new ≡ (if turn.now.is_merge then placed.old else placed.old ++ turn.now.place ∷ [])) }
 {

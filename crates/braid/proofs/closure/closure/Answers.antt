@@ -14,7 +14,6 @@ loop-place-init g c =
 pub at-requires : goal.at-requires
 at-requires g c =
     let keys = c.loop-place.places.keys in
-    let size : c.len.result ≡ length c.loop-place.links.items = c.len.ensures ∙ c.loop-place.links.ok.0 in
     c.loop-place.invariant.gathered.within c.in-Some.place (inside_at keys c.len.result c.in-Some.place (sym c.nth_place.ensures.place ∙ c.in-Some.is))
 
 pub loop-place-smaller : goal.loop-place-smaller
