@@ -7,7 +7,7 @@ use Rattle.std.proofs.lemmas.Slice.Eq.{bytes_eq-Decides}
 use Rattle.std.proofs.lemmas.Bool.Decides.{nat_tests}
 use Rattle.command.specs.declared.command.Command.{Command}
 use Rattle.base_bytes.specs.Words.{is_word}
-use Rattle.policy_ast.specs.Version.{Two}
+use Rattle.policy_ast.specs.declared.version.Version.TheVariants.{Two}
 use Rattle.policy_ast.specs.Words.{is_name, is_reserved}
 use Rattle.aranyad.specs.declared.first.facts.Row.{Row}
 use Rattle.aranyad.specs.declared.first.policy.Item.{Item}

@@ -93,7 +93,7 @@ module _ (row : Row) (are : are_keys row.keys ≡ true) where
   abbrev at : Row → Bool
   at = is_at row.fact row.keys
 
-  leaves : (test : Row → Bool) (rows : List Row) → is_base rows ≡ true → list_any at rows ≡ false → test row ≡ false → filter test (with_row row rows) ≡ filter test rows
+  pub leaves : (test : Row → Bool) (rows : List Row) → is_base rows ≡ true → list_any at rows ≡ false → test row ≡ false → filter test (with_row row rows) ≡ filter test rows
   leaves test [] base none lacks = rw lacks refl
   leaves test (first ∷ rows) base none lacks =
       let parts = base_parts first rows base in
@@ -106,7 +106,7 @@ module _ (row : Row) (are : are_keys row.keys ≡ true) where
       by true more = ap (λ rest. first ∷ rest) more
       by false more = more
 
-  stands : (rows : List Row) → is_base rows ≡ true → list_any at rows ≡ false → filter at (with_row row rows) ≡ row ∷ []
+  pub stands : (rows : List Row) → is_base rows ≡ true → list_any at rows ≡ false → filter at (with_row row rows) ≡ row ∷ []
   stands [] base none = rw (at_itself row) refl
   stands (first ∷ rows) base none =
       let parts = base_parts first rows base in
@@ -131,7 +131,7 @@ module _ (fact : ℕ) (keys values : List Value) where
       by true = refl
       by false = refl
 
-  taken-revalued : (test : Row → Bool) → IsElsewhere test fact keys → (rows : List Row) → filter test (map (revalued fact keys values) rows) ≡ filter test rows
+  pub taken-revalued : (test : Row → Bool) → IsElsewhere test fact keys → (rows : List Row) → filter test (map (revalued fact keys values) rows) ≡ filter test rows
   taken-revalued test elsewhere [] = refl
   taken-revalued test elsewhere (row ∷ rows) = by (is_at fact keys row) refl (at_revalued row) (taken-revalued test elsewhere rows)
     where
@@ -147,7 +147,7 @@ module _ (fact : ℕ) (keys values : List Value) where
           also true = ap (λ rest. row ∷ rest) more
           also false = more
 
-  at-map-revalued : (rows : List Row) → filter (is_at fact keys) (map (revalued fact keys values) rows) ≡ map (revalued fact keys values) (filter (is_at fact keys) rows)
+  pub at-map-revalued : (rows : List Row) → filter (is_at fact keys) (map (revalued fact keys values) rows) ≡ map (revalued fact keys values) (filter (is_at fact keys) rows)
   at-map-revalued [] = refl
   at-map-revalued (row ∷ rows) = rw (at_revalued row) (by (is_at fact keys row) (at-map-revalued rows))
     where

@@ -7,7 +7,7 @@ use crate::Wanted;
 use base_bytes::Value;
 
 /// Whether the place is one of the wanted fact whose keys begin with the wanted ones.
-pub(crate) fn is_place_within(wanted: &Wanted, place: &Wanted) -> bool
+pub fn is_place_within(wanted: &Wanted, place: &Wanted) -> bool
     ensures { result ≡ is_within wanted.now (row_of (place.now, [])) }
 {
     wanted.fact == place.fact && begins_with(wanted.keys.as_slice(), place.keys.as_slice())
@@ -26,7 +26,7 @@ fn begins_with(values: &[Value], keys: &[Value]) -> bool
 }
 
 /// Whether each named value is there at its place and equal.
-pub(crate) fn has_named(named: &[Option<Value>], values: &[Value]) -> bool
+pub fn has_named(named: &[Option<Value>], values: &[Value]) -> bool
     ensures { result ≡ has_named named.now values.now }
 {
     match named {

@@ -14,7 +14,7 @@ pub struct Row {
 }
 
 /// A copy of the row at the place, with these values.
-pub(crate) fn row_at(alloc: Global, place: &Wanted, values: &Values) -> Result<Row, NoMemory>
+pub fn row_at(alloc: Global, place: &Wanted, values: &Values) -> Result<Row, NoMemory>
     ensures { IfOk result (λ row. row ≡ row_of (place.now, values.now)) }
 {
     let keys = copy_values(alloc, place.keys.as_slice())?;

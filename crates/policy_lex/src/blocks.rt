@@ -21,14 +21,14 @@ pub struct Block {
 #[derive(Drop)]
 pub struct FoundBlocks {
     pub blocks: Items<Block>,
-    pub open: Option<u32>,
+    pub unclosed: Option<u32>,
 }
 
 /// The policy blocks of the lines from a place on.
 pub fn policy_blocks(alloc: Global, document: &[u8], start: usize) -> Result<FoundBlocks, NoMemory>
     requires short { length document.now < 2 ^ 32 }
     requires within { start ≤ length document.now }
-    ensures blocks { IfOk result (λ found. blocks_from 0 document.now (lines_at document.now start) ≡ plain_blocks found.open found.blocks) }
+    ensures blocks { IfOk result (λ found. blocks_from 0 document.now (lines_at document.now start) ≡ plain_blocks found.unclosed found.blocks) }
     ensures places { IfOk result (λ found. AreBlocks document.now start found.blocks (length document.now)) }
 {
     let mut blocks = Items::new(alloc);
@@ -44,14 +44,17 @@ pub fn policy_blocks(alloc: Global, document: &[u8], start: usize) -> Result<Fou
             }
             Part::Other { next } => next,
             Part::Open => {
-                let open = Some(number as u32);
-                return Ok(FoundBlocks { blocks, open });
+                let unclosed = Some(number as u32);
+                return Ok(FoundBlocks { blocks, unclosed });
             }
         };
         number += line_feeds(&document[place..next]);
         place = next;
     }
-    Ok(FoundBlocks { blocks, open: None })
+    Ok(FoundBlocks {
+        blocks,
+        unclosed: None,
+    })
 }
 
 fn push_block(blocks: &mut Items<Block>, block: Block) -> Result<(), NoMemory>

@@ -76,8 +76,8 @@ fn tokens_from(
     ensures few { IfOk result (λ tokens. length tokens.items ≤ length document.now) }
     ensures slices { IfOk result (λ tokens. All (IsTokenOf version document.now) tokens.items) }
 {
-    let FoundBlocks { blocks, open } = policy_blocks(alloc, document, place)?;
-    match open {
+    let FoundBlocks { blocks, unclosed } = policy_blocks(alloc, document, place)?;
+    match unclosed {
         Some(line) => Err(LexFault::OpenBlock(line)),
         None => blocks_tokens(alloc, version, document, blocks.as_slice()),
     }

@@ -52,27 +52,27 @@ placed_within (t ∷ ts) rest x reads = bind_then (read_item (kinds (t ∷ ts)))
     let p = ap length same in
     omega (arith, few, p))
 
--- the whole
-abbrev IsWhole : List Token → List PlacedItem → List Token → Type 0
-IsWhole tokens found rest = ◌≡◌ {A = List PlacedItem × List Token} (found, rest) (read_run (length tokens) [] tokens)
+-- what is read of all tokens: the items, and the tokens that are left
+abbrev AreRead : List Token → List PlacedItem → List Token → Type 0
+AreRead tokens found rest = ◌≡◌ {A = List PlacedItem × List Token} (found, rest) (read_run (length tokens) [] tokens)
 
-pub whole_spelled : (tokens : List Token) (found : List PlacedItem) (rest : List Token) → IsWhole tokens found rest → length rest < 1 → Spells tokens found
+pub whole_spelled : (tokens : List Token) (found : List PlacedItem) (rest : List Token) → AreRead tokens found rest → length rest < 1 → Spells tokens found
 whole_spelled tokens found [] is none = read_is_run tokens (found, []) (sym is)
 whole_spelled tokens found (t ∷ rest) is none = absurd (omega (arith, none))
 
-pub whole_few : (tokens : List Token) (found : List PlacedItem) (rest : List Token) → IsWhole tokens found rest → length found ≤ length tokens
+pub whole_few : (tokens : List Token) (found : List PlacedItem) (rest : List Token) → AreRead tokens found rest → length found ≤ length tokens
 whole_few tokens found rest is = run_length tokens rest found (read_is_run tokens (found, rest) (sym is))
 
-spelled_so : (tokens : List Token) (found : List PlacedItem) (rest : List Token) → IsWhole tokens found rest → (policy : List PlacedItem) → Spells tokens policy → ◌≡◌ {A = List PlacedItem × List Token} (found, rest) (policy, [])
+spelled_so : (tokens : List Token) (found : List PlacedItem) (rest : List Token) → AreRead tokens found rest → (policy : List PlacedItem) → Spells tokens policy → ◌≡◌ {A = List PlacedItem × List Token} (found, rest) (policy, [])
 spelled_so tokens found rest is policy spelled = is ∙ spelled_is_read tokens policy spelled
 
-pub whole_one : (tokens : List Token) (found : List PlacedItem) (rest : List Token) → IsWhole tokens found rest → (policy : List PlacedItem) → Spells tokens policy → found ≡ policy
+pub whole_one : (tokens : List Token) (found : List PlacedItem) (rest : List Token) → AreRead tokens found rest → (policy : List PlacedItem) → Spells tokens policy → found ≡ policy
 whole_one tokens found rest is policy spelled = ap (λ p. p.0) (spelled_so tokens found rest is policy spelled)
 
-pub whole_left : (tokens : List Token) (found : List PlacedItem) (rest : List Token) → IsWhole tokens found rest → (policy : List PlacedItem) → Spells tokens policy → length rest ≡ 0
+pub whole_left : (tokens : List Token) (found : List PlacedItem) (rest : List Token) → AreRead tokens found rest → (policy : List PlacedItem) → Spells tokens policy → length rest ≡ 0
 whole_left tokens found rest is policy spelled = ap (λ p. length p.1) (spelled_so tokens found rest is policy spelled)
 
-pub fault_line : (tokens : List Token) (found : List PlacedItem) (rest : List Token) (first : Token) → IsWhole tokens found rest → 1 ≤ length rest → first ≡ get_or rest 0 first → IsFaultLine tokens first.line
+pub fault_line : (tokens : List Token) (found : List PlacedItem) (rest : List Token) (first : Token) → AreRead tokens found rest → 1 ≤ length rest → first ≡ get_or rest 0 first → IsFaultLine tokens first.line
 fault_line tokens found [] first is some here = absurd (omega (arith, some))
 fault_line tokens found (t ∷ rest) first is some here =
     subst (λ (u : Token). IsFaultLine tokens u.line) (sym here) (policies.behind_run t rest (subst (λ p. LongestRun tokens p.1) (sym is) (longest_run tokens)))

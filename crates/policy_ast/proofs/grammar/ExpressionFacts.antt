@@ -8,7 +8,7 @@ use Rattle.policy_ast.specs.declared.expr.Expr.{Expr}
 use Rattle.policy_ast.specs.declared.expr.Unary.{Unary}
 use Rattle.policy_ast.specs.declared.expr.Unary.TheVariants as unary
 use Rattle.policy_ast.specs.grammar.Expressions as rows
-use Rattle.policy_ast.specs.grammar.Expressions.{AndOver, BindOver, BodyOver, ComparisonOver, ConditionalOver, ElseOver, ExprOver, ExprWithin, IsExpr, LetOver, OrOver, Level, PrimaryOver, UnaryOver, conditional, operand, whole}
+use Rattle.policy_ast.specs.grammar.Expressions.{AndOver, BindOver, BodyOver, ComparisonOver, ConditionalOver, ElseExprOver, ExprOver, ExprWithin, IsExpr, LetOver, OrOver, Level, PrimaryOver, UnaryOver, conditional, operand, whole}
 use Rattle.policy_ast.specs.grammar.Fields as fields
 use Rattle.policy_ast.specs.grammar.Fields.{IsNumber}
 use Rattle.policy_ast.specs.grammar.Fixed.{and, arithmetic_token, arrow, close_brace, close_bracket, close_paren, colon, comma, comparison_token, count_token, dot, equals, open_brace, open_bracket, open_paren, or, path, presence_token, question_mark, sign_token, word}
@@ -64,7 +64,7 @@ module _ (Below : Level → Nonterminal Expr) (parts : (level : Level) → ArePa
   pub body_tail : LeavesTail (BodyOver Below)
   body_tail = behind_tail (made_tail (pair_tail (many_tail (parts_tail let_parts) colon) (before_tail below_tail close_brace)) _) open_brace
 
-  else_tail : LeavesTail (ElseOver Below)
+  else_tail : LeavesTail (ElseExprOver Below)
   else_tail ts rest a (rows.body x) = made_tail body_tail _ ts rest a x
   else_tail ts rest a (rows.else_if x) = made_tail (parts_tail (parts conditional)) _ ts rest a x
 

@@ -10,7 +10,7 @@ use Rattle.policy_ast.specs.declared.expr.Unary.{Unary}
 use Rattle.policy_ast.specs.declared.expr.Unary.TheVariants as unary
 use Rattle.policy_ast.specs.declared.part.Part.{Part}
 use Rattle.policy_ast.specs.grammar.Expressions as rows
-use Rattle.policy_ast.specs.grammar.Expressions.{AndOver, BindOver, BodyOver, ComparisonOver, ConditionalOver, ElseOver, ExprOver, ExprWithin, IsExpr, LetOver, OrOver, Level, PrimaryOver, UnaryOver, conditional, operand, whole}
+use Rattle.policy_ast.specs.grammar.Expressions.{AndOver, BindOver, BodyOver, ComparisonOver, ConditionalOver, ElseExprOver, ExprOver, ExprWithin, IsExpr, LetOver, OrOver, Level, PrimaryOver, UnaryOver, conditional, operand, whole}
 use Rattle.policy_ast.specs.grammar.Fields.{IsName}
 use Rattle.policy_ast.specs.grammar.Fixed.{and, comparison_token, dot, or, presence_token, sign_token, word}
 use Rattle.policy_ast.specs.grammar.Forms as forms
@@ -51,7 +51,7 @@ module _ (Below Below' : Level → Nonterminal Expr) (below : Level → Reader E
   primary_law : (h : Bool) → IsRead (PrimaryOver Below h) (PrimaryOver Below' h) (primary_over below limit h) (suc limit) (EndsPrimary h)
   primary_law = primary_is_read Below Below' below limit parts law
 
-  choice : IsRead (Node choice_of (Below (whole true) ⊗ BodyOver Below ⊗ word "else" ▸ ElseOver Below)) (Node choice_of (Below' (whole true) ⊗ BodyOver Below' ⊗ word "else" ▸ ElseOver Below')) (conditional_over below limit) (suc limit) Always
+  choice : IsRead (Node choice_of (Below (whole true) ⊗ BodyOver Below ⊗ word "else" ▸ ElseExprOver Below)) (Node choice_of (Below' (whole true) ⊗ BodyOver Below' ⊗ word "else" ▸ ElseExprOver Below')) (conditional_over below limit) (suc limit) Always
   choice = choice_is_read Below Below' below limit parts law
 
   sign_is_read : (h : Bool) (op : Unary) → IsRead (Node (expr.Unary op) (Below (operand h))) (Node (expr.Unary op) (Below' (operand h))) (noded (suc limit) (expr.Unary op) (below (operand h))) (suc limit) (EndsUnary h)

@@ -8,7 +8,7 @@ use Rattle.policy_ast.specs.declared.expr.ExprBlock.{ExprBlock}
 use Rattle.policy_ast.specs.declared.expr.Let.{Let}
 use Rattle.policy_ast.specs.declared.part.Part.{Part}
 use Rattle.policy_ast.specs.grammar.Expressions as rows
-use Rattle.policy_ast.specs.grammar.Expressions.{AndOver, BindOver, BodyOver, ComparisonOver, ConditionalOver, ElseOver, ExprOver, ExprWithin, IsExpr, LetOver, OrOver, Level, PrimaryOver, UnaryOver, conditional, operand, whole}
+use Rattle.policy_ast.specs.grammar.Expressions.{AndOver, BindOver, BodyOver, ComparisonOver, ConditionalOver, ElseExprOver, ExprOver, ExprWithin, IsExpr, LetOver, OrOver, Level, PrimaryOver, UnaryOver, conditional, operand, whole}
 use Rattle.policy_ast.specs.grammar.Fixed.{arrow, close_brace, close_bracket, close_paren, colon, equals, open_brace, open_bracket, question_mark, word}
 use Rattle.policy_ast.specs.grammar.Forms as forms
 use Rattle.policy_ast.specs.grammar.Forms.{◌▸◌, ◌◂◌, ◌⊗◌, Chained, Empty, Listed, Made, Many, Node, Optional}
@@ -76,25 +76,25 @@ module _ (Below Below' : Level → Nonterminal Expr) (below : Level → Reader E
   body_is_read = made_is_read (pair_is_read (many_is_read colon let_is_read (forward (let_parts Below parts)) (unclosed (let_parts Below parts) colon refl) before_colon
       (starts_with (EndsWhole false) (word "let") before_let)) (before_is_read (law (whole false)) close_brace before_close_brace) (λ ts rest b y. tt)) _
 
-  else_is_read : IsRead (ElseOver Below) (ElseOver Below') (else_over below limit) limit Always
+  else_is_read : IsRead (ElseExprOver Below) (ElseExprOver Below') (else_over below limit) limit Always
   else_is_read = record {
     reads = reads;
     finds = on_finds open_brace ((made_is_read body_is_read else_expr.Block).finds) blocks (λ ts p is. found_by rows.else_if ((made_is_read (law conditional) else_expr.If).finds ts p is));
   }
     where
-      blocks : (ts rest : Kinds) (a : Part (ElseExpr Expr)) → (open_brace ▸ Made else_expr.Block (Made block_of (Many (LetOver Below') colon ⊗ Below' (whole false) ◂ close_brace))) ts rest a → ElseOver Below' ts rest a
+      blocks : (ts rest : Kinds) (a : Part (ElseExpr Expr)) → (open_brace ▸ Made else_expr.Block (Made block_of (Many (LetOver Below') colon ⊗ Below' (whole false) ◂ close_brace))) ts rest a → ElseExprOver Below' ts rest a
       blocks ts rest a (forms.behind (forms.made_of x)) = rows.body (forms.made_of (forms.behind x))
 
-      reads : (ts rest : Kinds) (a : Part (ElseExpr Expr)) → ElseOver Below ts rest a → a.height ≤ limit → Always rest → else_over below limit ts ≡ Some (a, rest)
+      reads : (ts rest : Kinds) (a : Part (ElseExpr Expr)) → ElseExprOver Below ts rest a → a.height ≤ limit → Always rest → else_over below limit ts ≡ Some (a, rest)
       reads ts rest a (rows.body (forms.made_of (forms.behind {ts = inner} x))) low ends = (made_is_read body_is_read else_expr.Block).reads inner rest a (forms.made_of x) low tt
       reads ts rest a (rows.else_if (forms.made_of {a = b} x)) low ends =
           rw (not_after open_brace refl ts ((parts conditional ts rest b x).opens)) ((made_is_read (law conditional) else_expr.If).reads ts rest a (forms.made_of x) low tt)
 
   -- behind the word
-  pub choice_is_read : IsRead (Node choice_of (Below (whole true) ⊗ BodyOver Below ⊗ word "else" ▸ ElseOver Below)) (Node choice_of (Below' (whole true) ⊗ BodyOver Below' ⊗ word "else" ▸ ElseOver Below'))
+  pub choice_is_read : IsRead (Node choice_of (Below (whole true) ⊗ BodyOver Below ⊗ word "else" ▸ ElseExprOver Below)) (Node choice_of (Below' (whole true) ⊗ BodyOver Below' ⊗ word "else" ▸ ElseExprOver Below'))
       (conditional_over below limit) (suc limit) Always
   choice_is_read = node_above (pair_is_read (law (whole true)) (pair_is_read (behind_is_read body_is_read open_brace) (behind_is_read else_is_read (word "else")) (λ ts rest b y. tt))
       (λ ts rest b y. body_first ts rest b y)) choice_of
     where
-      body_first : (ts rest : Kinds) (b : Part (ExprBlock Expr × ElseExpr Expr)) → (BodyOver Below ⊗ word "else" ▸ ElseOver Below) ts rest b → EndsWhole true ts
+      body_first : (ts rest : Kinds) (b : Part (ExprBlock Expr × ElseExpr Expr)) → (BodyOver Below ⊗ word "else" ▸ ElseExprOver Below) ts rest b → EndsWhole true ts
       body_first ts rest b (forms.pair (forms.behind {ts = inner} x) y) = ends_before_brace inner

@@ -12,7 +12,7 @@ use Rattle.policy_ast.specs.declared.literal.Literal.TheVariants as literal
 use Rattle.policy_ast.specs.declared.part.Part.{Part}
 use Rattle.policy_ast.specs.declared.token.TokenKind.TheVariants as token
 use Rattle.policy_ast.specs.grammar.Expressions as rows
-use Rattle.policy_ast.specs.grammar.Expressions.{AndOver, BindOver, BodyOver, ComparisonOver, ConditionalOver, ElseOver, ExprOver, ExprWithin, IsExpr, LetOver, OrOver, Level, PrimaryOver, UnaryOver, conditional, operand, whole}
+use Rattle.policy_ast.specs.grammar.Expressions.{AndOver, BindOver, BodyOver, ComparisonOver, ConditionalOver, ElseExprOver, ExprOver, ExprWithin, IsExpr, LetOver, OrOver, Level, PrimaryOver, UnaryOver, conditional, operand, whole}
 use Rattle.policy_ast.specs.grammar.Fields as fields
 use Rattle.policy_ast.specs.grammar.Fields.{IsLiteral, IsName, IsNumber}
 use Rattle.policy_ast.specs.grammar.Fixed.{arithmetic_token, close_brace, close_paren, comma, count_token, open_brace, open_paren, path, sign_token, word}
@@ -42,7 +42,7 @@ module _ (Below Below' : Level → Nonterminal Expr) (below : Level → Reader E
   pattern : IsRead (PatternOver (Below (whole false))) (PatternOver (Below' (whole false))) (pattern_over below limit) limit EndsPattern
   pattern = pattern_is_read Below Below' below limit parts law
 
-  choice : IsRead (Node choice_of (Below (whole true) ⊗ BodyOver Below ⊗ word "else" ▸ ElseOver Below)) (Node choice_of (Below' (whole true) ⊗ BodyOver Below' ⊗ word "else" ▸ ElseOver Below')) (conditional_over below limit) (suc limit) Always
+  choice : IsRead (Node choice_of (Below (whole true) ⊗ BodyOver Below ⊗ word "else" ▸ ElseExprOver Below)) (Node choice_of (Below' (whole true) ⊗ BodyOver Below' ⊗ word "else" ▸ ElseExprOver Below')) (conditional_over below limit) (suc limit) Always
   choice = choice_is_read Below Below' below limit parts law
 
   -- what stands behind each first token of a primary

@@ -40,14 +40,14 @@ module _ (Below : Level → Nonterminal Expr) where
   BodyOver = open_brace ▸ Made (λ t. record { lets = t.0; value = t.1 }) (Many LetOver colon ⊗ Below (whole false) ◂ close_brace)
 
   -- ebody | an "if" of this kind
-  pub data ElseOver (ts rest : Kinds) (a : Part (ElseExpr Expr)) : Type 0 where
-    body : Made else_expr.Block BodyOver ts rest a → ElseOver ts rest a
-    else_if : Made else_expr.If (Below conditional) ts rest a → ElseOver ts rest a
+  pub data ElseExprOver (ts rest : Kinds) (a : Part (ElseExpr Expr)) : Type 0 where
+    body : Made else_expr.Block BodyOver ts rest a → ElseExprOver ts rest a
+    else_if : Made else_expr.If (Below conditional) ts rest a → ElseExprOver ts rest a
 
   -- "if" head ebody "else" (ebody | an "if" of this kind)
   abbrev pub ConditionalOver : Nonterminal Expr
   ConditionalOver = word "if" ▸ Node (λ t. expr.If (record { head = t.0; then = t.1.0; otherwise = t.1.1 }))
-      (Below (whole true) ⊗ BodyOver ⊗ word "else" ▸ ElseOver)
+      (Below (whole true) ⊗ BodyOver ⊗ word "else" ▸ ElseExprOver)
 
   -- prim = literal | "None" | "Some" "(" expr ")" | "this" | Name | "(" expr ")"
   --      | Name "::" Name "(" list(expr) ")" | Name "(" list(expr) ")" | Name "{" list(bind) "}"

@@ -1,0 +1,5 @@
+-- What serves the contracts of private functions, or a trait's law. Nobody has to read it who reads the promises.
+pub mod Bases
+pub mod Nearest
+pub mod Said
+pub mod Walk
