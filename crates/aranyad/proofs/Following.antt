@@ -24,9 +24,9 @@ halt_follows halt.Memory outcome old new runs = runs
 
 -- a refusal ends as it is meant to, or the write of its line failed
 pub refused_ends : (result : Result Ending Halt) (end : Ending) (old new : ℕ) → IfOk result (λ e. e ≡ end) → WriteHalts old new result →
-    (result ≡ Ok end) ⊎ (result ≡ Err halt.Write)
+    (result ≡ Ok end) ⊎ ((result ≡ Err halt.Write) ⊎ (result ≡ Err halt.Memory))
 refused_ends (Ok e) end old new is halts = inl (ap Ok is)
 refused_ends (Err halt.Read) end old new is halts = absurd (halts.no_read refl)
-refused_ends (Err halt.Write) end old new is halts = inr refl
+refused_ends (Err halt.Write) end old new is halts = inr (inl refl)
 refused_ends (Err halt.Seal) end old new is halts = absurd (halts.no_seal refl)
 refused_ends (Err halt.Memory) end old new is halts = absurd (halts.no_memory refl)

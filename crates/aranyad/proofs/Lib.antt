@@ -1,5 +1,6 @@
 -- Lemmas that the proofs of this crate share.
 pub mod Each
+pub mod Placed
 pub mod Indexing
 pub mod Leading
 pub mod LineTexts

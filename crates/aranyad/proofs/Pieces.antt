@@ -32,6 +32,9 @@ append_none (Some xs) = ap Some (append-nil xs)
 pub stopped_at_once : (pieces : List (List ℕ)) (old : Option (List ℕ)) → StopsBetween pieces old old
 stopped_at_once pieces old = record { left = pieces; so_far = record { done = []; whole = refl; added = sym (append_none old) } }
 
+pub front_at_once : (text : List ℕ) (old : Option (List ℕ)) → WritesFront text old old
+front_at_once text old = record { rest = text; so_far = record { part = []; whole = refl; added = sym (append_none old) } }
+
 -- the pieces joined, and one more behind them
 pub concat-append : (done left : List (List ℕ)) → concat (done ++ left) ≡ concat done ++ concat left
 concat-append [] left = refl

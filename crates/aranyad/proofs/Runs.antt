@@ -8,7 +8,7 @@ use Rattle.aranyad.specs.Ending.{ReadHalts}
 use Rattle.aranyad.specs.Outcome.{Outcome, RunsTo, StopsBetween}
 use Rattle.aranyad.proofs.Pieces.{stopped_at_once}
 
--- memory was wanting before anything was written
+-- out of memory before anything was written
 pub wanting_at_once : (outcome : Outcome) (old : Option (List ℕ)) → RunsTo (Err halt.Memory) outcome old old
 wanting_at_once outcome old =
     elim outcome.pieces as (λ p. IfSome p (λ pieces. StopsBetween pieces old old)) [

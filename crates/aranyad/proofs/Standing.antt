@@ -7,6 +7,7 @@ use Rattle.std.proofs.lemmas.Slice.Eq.{bytes_eq-Decides}
 use Rattle.std.proofs.lemmas.Bool.Decides.{nat_tests}
 use Rattle.command.specs.declared.command.Command.{Command}
 use Rattle.base_bytes.specs.Words.{is_word}
+use Rattle.policy_ast.specs.declared.version.Version.TheVariants.{Two}
 use Rattle.policy_ast.specs.Words.{is_name, is_reserved}
 use Rattle.aranyad.specs.declared.first.facts.Row.{Row}
 use Rattle.aranyad.specs.declared.first.policy.Item.{Item}
@@ -69,12 +70,12 @@ ran_from-append items rows (d ∷ commands) c = ran_from-append items (command_d
 -- the name of an item is a word
 pub name_is_word : (items : List Item) (i : Item) → item_is_sound items i ≡ true → is_word (name_of i) ≡ true
 name_is_word items i sound =
-    (both (is_word (name_of i)) (not (is_reserved (name_of i))) ((both (is_name (name_of i)) (not (bytes_eq (name_of i) (codes "Envelope")) && body_is_sound items i) sound).0)).0
+    (both (is_word (name_of i)) (not (is_reserved Two (name_of i))) ((both (is_name Two (name_of i)) (not (bytes_eq (name_of i) (codes "Envelope")) && body_is_sound items i) sound).0)).0
 
 -- a sound command has at most 64 fields
 pub few_fields : (items : List Item) (b : Basic) → item_is_sound items (item.Basic b) ≡ true → length b.fields ≤ 64
 few_fields items b sound =
-    let body = both (not (bytes_eq b.name (codes "Envelope"))) (basic_is_sound items b) ((both (is_name b.name) (not (bytes_eq b.name (codes "Envelope")) && basic_is_sound items b) sound).1) in
-    let fields = both (are_fields b.fields) (list_all (λ c. is_among c.field b.fields) b.checks && (is_name b.author && (not (bytes_eq b.author (codes "envelope")) && (creates (item_named items b.created.fact) b && emission_is_sound items b b.emitted)))) body.1 in
-    let few = both (nat_le (length b.fields) 64) (list_all is_name b.fields && are_distinct b.fields) fields.0 in
+    let body = both (not (bytes_eq b.name (codes "Envelope"))) (basic_is_sound items b) ((both (is_name Two b.name) (not (bytes_eq b.name (codes "Envelope")) && basic_is_sound items b) sound).1) in
+    let fields = both (are_fields b.fields) (list_all (λ c. is_among c.field b.fields) b.checks && (is_name Two b.author && (not (bytes_eq b.author (codes "envelope")) && (creates (item_named items b.created.fact) b && emission_is_sound items b b.emitted)))) body.1 in
+    let few = both (nat_le (length b.fields) 64) (list_all (is_name Two) b.fields && are_distinct b.fields) fields.0 in
     grind (arith, nat_tests, few.0)

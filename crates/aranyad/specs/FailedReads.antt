@@ -3,12 +3,13 @@ use Rattle.std.specs.Prelude.{◌≡◌, ◌⊎◌, ℕ, List, Option, None, Som
 use Rattle.outside.specs.Files.{Holding}
 use Rattle.policy_ast.specs.DocumentTokens.{document_tokens}
 use Rattle.policy_ast.specs.declared.item.Item.{Item as Tree}
+use Rattle.policy_ast.specs.declared.policy.PlacedItem.{PlacedItem}
 use Rattle.policy_ast.specs.declared.token.Token.{Token}
-use Rattle.policy_ast.specs.grammar.Policies.{Spells, kinds}
+use Rattle.policy_ast.specs.grammar.Policies.{Spells}
 use Rattle.aranyad.specs.declared.first.policy.SmallPolicy.{SmallPolicy}
 use Rattle.aranyad.specs.declared.mode.Mode.{Mode}
 use Rattle.aranyad.specs.declared.mode.Mode.TheVariants.{Run}
-use Rattle.aranyad.specs.first.Small.{small_policy}
+use Rattle.aranyad.specs.first.Small.{small_policy, trees_of}
 use Rattle.aranyad.specs.Outcome.{limited, policy_limit}
 
 -- trees that are a small policy
@@ -16,11 +17,11 @@ pub record AreSmall (trees : List Tree) : Type 0 where
   pub policy : SmallPolicy
   pub small : small_policy trees ≡ Some policy
 
--- tokens that spell such trees
+-- tokens that spell items with such trees
 pub record SpellSmall (tokens : List Token) : Type 0 where
-  pub trees : List Tree
-  pub spelled : Spells (kinds tokens) trees
-  pub good : AreSmall trees
+  pub items : List PlacedItem
+  pub spelled : Spells tokens items
+  pub good : AreSmall (trees_of items)
 
 -- a document that has such tokens
 pub record HasPolicy (document : List ℕ) : Type 0 where

@@ -8,10 +8,10 @@ use Rattle.std.specs.Io.KnownBytes.{append_known}
 use Rattle.sha2.specs.Sha256.{sha256}
 use Rattle.outside.specs.Files.{Holding}
 use Rattle.policy_ast.specs.DocumentFault.{DocumentFault, NotUtf8, NoFrontMatter, WrongVersion, OpenBlock, BadToken}
-use Rattle.policy_ast.specs.DocumentTokens.{Tokens, document_tokens}
-use Rattle.policy_ast.specs.declared.item.Item.{Item as Tree}
+use Rattle.policy_ast.specs.DocumentTokens.{TokensResult, document_tokens}
+use Rattle.policy_ast.specs.declared.policy.PlacedItem.{PlacedItem}
 use Rattle.policy_ast.specs.declared.token.Token.{Token}
-use Rattle.policy_ast.specs.grammar.Policies.{IsFaultLine, Spells, kinds}
+use Rattle.policy_ast.specs.grammar.Policies.{IsFaultLine, Spells}
 use Rattle.aranyad.specs.declared.mode.Mode.{Mode}
 use Rattle.aranyad.specs.declared.mode.Mode.TheVariants.{Run}
 use Rattle.aranyad.specs.declared.status.Status.{Status}
@@ -21,7 +21,7 @@ use Rattle.aranyad.specs.declared.first.script.Line.{Line}
 use Rattle.aranyad.specs.first.Acting.{Tagging}
 use Rattle.aranyad.specs.first.Running.{texts}
 use Rattle.aranyad.specs.first.Script.{script_of}
-use Rattle.aranyad.specs.first.Small.{small_policy}
+use Rattle.aranyad.specs.first.Small.{small_policy, trees_of}
 use Rattle.aranyad.specs.Modes.{mode_of}
 use Rattle.aranyad.specs.Ending.{ending_status}
 use Rattle.aranyad.specs.declared.ending.Ending.{Ending}
@@ -79,9 +79,9 @@ fault_line (WrongVersion line) = policy_line (codes "wrong version") line
 fault_line (OpenBlock line) = policy_line (codes "open block") line
 fault_line (BadToken line) = policy_line (codes "bad token") line
 
--- the trees of the items that tokens spell, and where they spell none the line of the syntax fault
-abbrev pub IsParse : List Token → Result (List Tree) ℕ → Type 0
-IsParse tokens (Ok trees) = Spells (kinds tokens) trees
+-- the items that tokens spell, and where they spell none the line of the syntax fault
+abbrev pub IsParse : List Token → Result (List PlacedItem) ℕ → Type 0
+IsParse tokens (Ok items) = Spells tokens items
 IsParse tokens (Err line) = IsFaultLine tokens line
 
 module _ (told : Option Tagging) (document : List ℕ) (script : Option (Option (List ℕ))) where
@@ -91,14 +91,14 @@ module _ (told : Option Tagging) (document : List ℕ) (script : Option (Option 
   policy_outcome (Some policy) = script_outcome told (sha256 document) policy.items script
 
   -- and so is a document whose tokens spell no policy
-  abbrev pub parse_outcome : Result (List Tree) ℕ → Outcome
+  abbrev pub parse_outcome : Result (List PlacedItem) ℕ → Outcome
   parse_outcome (Err line) = refused status.PolicyRefused (policy_line (codes "syntax") line)
-  parse_outcome (Ok trees) = policy_outcome (small_policy trees)
+  parse_outcome (Ok items) = policy_outcome (small_policy (trees_of items))
 
   -- its tokens are judged before that
-  abbrev pub RunsTokens : Tokens → Outcome → Type 0
+  abbrev pub RunsTokens : TokensResult → Outcome → Type 0
   RunsTokens (Err fault) outcome = outcome ≡ refused status.PolicyRefused (fault_line fault)
-  RunsTokens (Ok tokens) outcome = (parse : Result (List Tree) ℕ) × IsParse tokens parse × (outcome ≡ parse_outcome parse)
+  RunsTokens (Ok tokens) outcome = (parse : Result (List PlacedItem) ℕ) × IsParse tokens parse × (outcome ≡ parse_outcome parse)
 
 module _ (told : Option Tagging) where
   -- a run over the policy's file and the script's
@@ -122,7 +122,7 @@ pub record WritesUpTo (pieces left : List (List ℕ)) (old new : Option (List �
   pub whole : done ++ left ≡ pieces
   pub added : new ≡ append_known old (concat done)
 
--- what was written where memory was wanting: whole pieces
+-- what was written where the run was out of memory: whole pieces
 pub record StopsBetween (pieces : List (List ℕ)) (old new : Option (List ℕ)) : Type 0 where
   pub left : List (List ℕ)
   pub so_far : WritesUpTo pieces left old new

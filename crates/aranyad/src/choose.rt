@@ -1,4 +1,4 @@
-ghost use Rattle.std.specs.Prelude.{◌≡◌, ◌≢◌, ◌==◌, ◌&&◌, not, ◌↔◌, length, slice_index, None, Some, IfOk, IsTrue};
+ghost use Rattle.std.specs.Prelude.{◌≡◌, ◌==◌, ◌&&◌, not, ◌↔◌, length, slice_index, None, Some, IfOk, IsTrue};
 ghost use Rattle.aranyad.specs.Modes.{mode_of, is_file_name};
 ghost use Rattle.aranyad.specs.declared.choose.ChooseFault.TheVariants as fault;
 
@@ -34,7 +34,6 @@ fn is_file_name(word: &Text) -> bool
 pub fn choose(alloc: Global, words: &[Text]) -> Result<Mode, ChooseFault>
     ensures mode { IfOk result (λ mode. mode_of words.now ≡ Some mode) }
     ensures usage { result ≡ Err fault.Usage → mode_of words.now ≡ None }
-    ensures memory { result ≡ Err fault.NoMemory → mode_of words.now ≢ None }
 {
     match words {
         [verb, policy, script] => {

@@ -2,7 +2,7 @@ use crate::first::stop::Stop;
 use crate::status::Status;
 use base_bytes::NoMemory;
 
-/// How a run ended that no device and no want of memory stopped.
+/// How a run ended that no device stopped, nor memory that ran out.
 #[derive(Clone, Copy)]
 pub enum Ending {
     Done,

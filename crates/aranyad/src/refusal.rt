@@ -18,7 +18,7 @@ pub fn policy_line(alloc: Global, what: &str, line: u32) -> Result<Bytes, NoMemo
     )
 }
 
-/// The line that is printed for a document without tokens. Want of memory is no fault of the document, and stays what it is.
+/// The line that is printed for a document without tokens. Out of memory is no fault of the document, and stays what it is.
 pub fn fault_line(alloc: Global, fault: LexFault) -> Result<Bytes, NoMemory>
     ensures { IfOk result (λ text. MatchOption (named fault) ⊥ (λ f. text ≡ fault_line f)) }
 {

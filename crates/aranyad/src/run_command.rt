@@ -54,7 +54,7 @@ fn run_words<F: Files, E: Envelope, K: Sink>(
         RunsTo result outcome (K.written out.old) (K.written out.new)) }
     ensures cause { HaltsWithCause (counts (F.faults files.old) (E.faults env.old) (K.faults out.old)) (counts (F.faults files.new) (E.faults env.new) (K.faults out.new)) result }
     ensures usage { result ≡ Ok ending.Usage → mode_of words.now ≡ None }
-    ensures no_mode { mode_of words.now ≡ None → (result ≡ Ok ending.Usage) ⊎ (result ≡ Err halt.Write) }
+    ensures no_mode { mode_of words.now ≡ None → (result ≡ Ok ending.Usage) ⊎ ((result ≡ Err halt.Write) ⊎ (result ≡ Err halt.Memory)) }
     ensures name { result ≡ Err halt.Read → ReadFails (F.holds files.old) (mode_of words.now) (F.last files.new) }
     ensures nothing { result ≡ Err halt.Read → K.written out.new ≡ K.written out.old }
     ensures line { result ≡ Ok ending.Usage → K.written out.new ≡ append_known (K.written out.old) usage_line }
@@ -83,12 +83,12 @@ pub fn run_command<F: Files, D: Disk, E: Envelope, K: Sink>(
     ensures run { IfSome (F.holds files.old) (λ at. (outcome : Outcome) → Runs E.tag_of at words.now outcome →
         Follows result outcome (K.written out.old) (K.written out.new)) }
     ensures disks { disks.new.items ≡ disks.old.items }
-    // Where no device failed, the outcome's end is reached, or memory is wanting.
+    // Where no device failed, the outcome's end is reached, or it is out of memory.
     ensures complete { ¬ Rose (F.faults files.old) (F.faults files.new) → ¬ Rose (E.faults env.old) (E.faults env.new) → ¬ Rose (K.faults out.old) (K.faults out.new) →
         IfSome (F.holds files.old) (λ at. (outcome : Outcome) → Runs E.tag_of at words.now outcome →
         (result ≡ outcome.status) ⊎ (result ≡ Status.NoMemory)) }
     ensures usage { result ≡ Status.Usage → mode_of words.now ≡ None }
-    ensures no_mode { mode_of words.now ≡ None → (result ≡ Status.Usage) ⊎ (result ≡ Status.WriteFault) }
+    ensures no_mode { mode_of words.now ≡ None → (result ≡ Status.Usage) ⊎ ((result ≡ Status.WriteFault) ⊎ (result ≡ Status.NoMemory)) }
     ensures usage_line { result ≡ Status.Usage → K.written out.new ≡ append_known (K.written out.old) usage_line }
     ensures usage_front { mode_of words.now ≡ None → WritesFront usage_line (K.written out.old) (K.written out.new) }
     ensures read { result ≡ Status.ReadFault → Rose (F.faults files.old) (F.faults files.new) }

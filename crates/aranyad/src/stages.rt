@@ -1,12 +1,12 @@
 ghost use Rattle.std.specs.Prelude.{◌≡◌, ◌≢◌, ◌<◌, ◌^◌, ℕ, List, Result, Ok, Option, Some, Err, IsTrue, IfSome, length};
 ghost use Rattle.policy_ast.specs.DocumentTokens.{document_tokens};
-ghost use Rattle.policy_ast.specs.declared.item.Item.{Item as Tree};
+ghost use Rattle.policy_ast.specs.declared.policy.PlacedItem.{PlacedItem};
 ghost use Rattle.aranyad.specs.Ending.{HaltsWithCause, NamesFile, counts};
 ghost use Rattle.aranyad.specs.FailedReads.{AreSmall, FailsOne, HasPolicy, SpellSmall};
 ghost use Rattle.aranyad.specs.Outcome.{IsParse, Outcome, RunsFiles, RunsTo, RunsTokens, limited, parse_outcome, policy_limit, policy_outcome, script_limit, script_outcome};
 ghost use Rattle.aranyad.specs.declared.ending.Ending.TheVariants as ending;
 ghost use Rattle.aranyad.specs.declared.ending.Halt.TheVariants as halt;
-ghost use Rattle.aranyad.specs.first.Small.{small_policy};
+ghost use Rattle.aranyad.specs.first.Small.{small_policy, trees_of};
 ghost use Rattle.aranyad.specs.first.Sound.{is_sound};
 
 use crate::ending::{Ending, Halt};
@@ -16,7 +16,7 @@ use crate::refusal::{fault_line, policy_line};
 use crate::run::{read_limited, refuse, run_bytes};
 use base_bytes::{Id, NoMemory, Text, sha256};
 use outside::{Envelope, Files, Sink};
-use policy_ast::{Item as Tree, Token};
+use policy_ast::{PlacedItem, Token};
 use policy_lex::tokens;
 use policy_parse::{SyntaxFault, parse};
 use std::alloc::Global;
@@ -51,25 +51,25 @@ fn run_script<F: Files, E: Envelope, K: Sink>(
     }
 }
 
-/// Runs a policy by the trees of its items, and then the script's file.
-fn run_trees<F: Files, E: Envelope, K: Sink>(
+/// Runs a policy by its items, and then the script's file.
+fn run_items<F: Files, E: Envelope, K: Sink>(
     alloc: Global,
     document: &[u8],
-    trees: &[Tree],
+    items: &[PlacedItem],
     script: Text,
     files: &mut F,
     env: &mut E,
     out: &mut K,
 ) -> Result<Ending, Halt>
     ensures run { IfSome (F.holds files.old) (λ at.
-        RunsTo result (policy_outcome E.tag_of document.now (limited script_limit (at script)) (small_policy trees.now)) (K.written out.old) (K.written out.new)) }
+        RunsTo result (policy_outcome E.tag_of document.now (limited script_limit (at script)) (small_policy (trees_of items.now))) (K.written out.old) (K.written out.new)) }
     ensures no_usage { result ≢ Ok ending.Usage }
     ensures cause { HaltsWithCause (counts (F.faults files.old) (E.faults env.old) (K.faults out.old)) (counts (F.faults files.new) (E.faults env.new) (K.faults out.new)) result }
     ensures name { NamesFile script (F.last files.new) result }
     ensures nothing { result ≡ Err halt.Read → K.written out.new ≡ K.written out.old }
-    ensures read { result ≡ Err halt.Read → AreSmall trees.now }
+    ensures read { result ≡ Err halt.Read → AreSmall (trees_of items.now) }
 {
-    match small_policy(alloc, trees) {
+    match small_policy(alloc, items) {
         Ok(Some(policy)) => run_script(alloc, &sha256(document), &policy, script, files, env, out),
         Ok(None) => refuse(out, Ending::PolicyRefused, b"policy refused: unbuilt\n"),
         Err(NoMemory) => Err(Halt::Memory),
@@ -87,7 +87,7 @@ fn run_tokens<F: Files, E: Envelope, K: Sink>(
     out: &mut K,
 ) -> Result<Ending, Halt>
     requires { length tokens.now < 2 ^ 32 }
-    ensures run { IfSome (F.holds files.old) (λ at. (parse : Result (List Tree) ℕ) → IsParse tokens.now parse →
+    ensures run { IfSome (F.holds files.old) (λ at. (parse : Result (List PlacedItem) ℕ) → IsParse tokens.now parse →
         RunsTo result (parse_outcome E.tag_of document.now (limited script_limit (at script)) parse) (K.written out.old) (K.written out.new)) }
     ensures no_usage { result ≢ Ok ending.Usage }
     ensures cause { HaltsWithCause (counts (F.faults files.old) (E.faults env.old) (K.faults out.old)) (counts (F.faults files.new) (E.faults env.new) (K.faults out.new)) result }
@@ -96,7 +96,7 @@ fn run_tokens<F: Files, E: Envelope, K: Sink>(
     ensures read { result ≡ Err halt.Read → SpellSmall tokens.now }
 {
     match parse(alloc, tokens) {
-        Ok(policy) => run_trees(alloc, document, policy.items(), script, files, env, out),
+        Ok(policy) => run_items(alloc, document, policy.items(), script, files, env, out),
         Err(SyntaxFault::Syntax { item_line }) => match policy_line(alloc, "syntax", item_line) {
             Ok(line) => refuse(out, Ending::PolicyRefused, line.as_slice()),
             Err(NoMemory) => Err(Halt::Memory),

@@ -3,15 +3,17 @@ mod devices;
 mod documents;
 mod limits;
 mod narrow_sink;
+mod numbering_envelope;
 mod rows;
 mod scripts;
 mod words;
 
 use crate::run_command::run_command;
 use crate::tests::narrow_sink::NarrowSink;
+use crate::tests::numbering_envelope::NumberingEnvelope;
 use crate::tests::rows::{FIRST, Row};
 use base_bytes::{Bytes, NoMemory, Text};
-use outside::{ListEnvelope, MemoryFiles, MemorySink};
+use outside::{Envelope, ListEnvelope, MemoryFiles, MemorySink};
 use std::alloc::Global;
 use std::process::Abort;
 use std::test::*;
@@ -64,12 +66,16 @@ fn are_pieces(bytes: &[u8], pieces: &[&str]) -> bool {
     rest.is_empty()
 }
 
-// Makes the run of a row, and asserts its status and all that it wrote.
-fn assert_row<R: Abort>(rt: &R, alloc: Global, row: &Row) -> Result<(), NoMemory> {
+// Makes the run of a row with this envelope, and asserts its status and all that it wrote.
+fn assert_row_sealed<R: Abort, E: Envelope>(
+    rt: &R,
+    alloc: Global,
+    row: &Row,
+    env: &mut E,
+) -> Result<(), NoMemory> {
     let words = row_words(alloc, row)?;
     let mut files = row_files(alloc, row)?;
     let mut disks = crate::empty_disks(alloc)?;
-    let mut env = ListEnvelope::new(alloc, failing(alloc, row.failing_seal)?);
     let mut out = NarrowSink {
         sink: MemorySink::new(alloc, failing(alloc, row.failing_write)?),
         most: row.taken,
@@ -79,7 +85,7 @@ fn assert_row<R: Abort>(rt: &R, alloc: Global, row: &Row) -> Result<(), NoMemory
         words.as_slice(),
         &mut files,
         &mut disks,
-        &mut env,
+        env,
         &mut out,
     );
     assert!(rt;
@@ -94,6 +100,12 @@ fn assert_row<R: Abort>(rt: &R, alloc: Global, row: &Row) -> Result<(), NoMemory
         row.name
     );
     Ok(())
+}
+
+// The same with an envelope whose seals fail as the row says.
+fn assert_row<R: Abort>(rt: &R, alloc: Global, row: &Row) -> Result<(), NoMemory> {
+    let mut env = ListEnvelope::new(alloc, failing(alloc, row.failing_seal)?);
+    assert_row_sealed(rt, alloc, row, &mut env)
 }
 
 fn assert_rows<R: Abort>(rt: &R, alloc: Global, rows: &[Row]) -> Result<(), NoMemory> {
@@ -166,5 +178,14 @@ fn each_device_fails_in_turn(rt: HostRuntime) -> Result<(), Fail> {
 #[test]
 fn a_narrow_sink_gets_the_whole_text(rt: HostRuntime) -> Result<(), Fail> {
     assert_rows(&rt, rt.alloc(), &devices::NARROW)?;
+    Ok(())
+}
+
+#[test]
+fn a_run_needs_no_told_tags(rt: HostRuntime) -> Result<(), Fail> {
+    let mut env = NumberingEnvelope { seals: 0 };
+    assert_row_sealed(&rt, rt.alloc(), &FIRST, &mut env)?;
+    assert_row_sealed(&rt, rt.alloc(), &FIRST, &mut env)?;
+    assert!(rt; env.seals == 4);
     Ok(())
 }

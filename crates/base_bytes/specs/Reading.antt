@@ -10,7 +10,7 @@ use Rattle.base_bytes.specs.declared.unread.Unread.TheVariants as unread
 abbrev pub Reading : Type 0 → Type 0
 Reading A = List ℕ → Option (A × List ℕ)
 
--- What a reader's call answered: the value at the front, and the reader then stands behind it, or that none stands there. Want of memory says nothing.
+-- What a reader's call answered: the value at the front, and the reader then stands behind it, or that none stands there. A call that ran out of memory says nothing.
 abbrev pub Reads : {X A : Type 0} → (X → A) → Result X Unread → List ℕ → Option (A × List ℕ) → Type 0
 Reads view (Ok x) rest found = found ≡ Some (view x, rest)
 Reads view (Err unread.Malformed) rest found = found ≡ None

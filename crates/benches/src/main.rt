@@ -1,10 +1,13 @@
-//! Calls that no command of the program reaches, made often: the scripts in `bench/` take the time. `benches read SIZE ROUNDS` and
-//! `benches braid SHAPE SIZE ROUNDS` make one call so many times; without words each call is made a few times.
+//! Calls that no command of the program reaches, made often: the scripts in `bench/` take the time. `benches read SIZE ROUNDS`,
+//! `benches braid SHAPE SIZE ROUNDS` and `benches write ROUNDS` make one call so many times; without words each call is made a few
+//! times.
 #![tactic(auto)]
 
+mod disk;
 mod graphs;
 mod responses;
 
+use crate::disk::write_at_end;
 use crate::graphs::{Ask, Shape, run as run_graph};
 use crate::responses::{Call, Size, run};
 use base_bytes::NoMemory;
@@ -103,9 +106,14 @@ fn report_graph(
     println!(rt; "{ask} {shape} {size}: {rounds} rounds, {found} found")
 }
 
+fn report_disk(rt: &HostRuntime, rounds: u32) -> io::Result<()> {
+    let length = write_at_end(rt.alloc(), rounds).map_err(out_of_memory)?;
+    println!(rt; "write: {rounds} rounds, {length} bytes")
+}
+
 fn usage(rt: &HostRuntime) -> io::Result<()> {
     println!(rt;
-        "usage: benches read|copy 4096|100 ROUNDS, or benches braid|ancestor strands|chain|diamonds SIZE ROUNDS"
+        "usage: benches read|copy 4096|100 ROUNDS, or benches braid|ancestor strands|chain|diamonds SIZE ROUNDS, or benches write ROUNDS"
     )
 }
 
@@ -136,6 +144,13 @@ fn report_graph_words(
     }
 }
 
+fn report_disk_words(rt: &HostRuntime, call: &str, rounds: &str) -> io::Result<()> {
+    match (call, rounds_of(rounds)) {
+        ("write", Some(rounds)) => report_disk(rt, rounds),
+        _ => usage(rt),
+    }
+}
+
 fn report_all(rt: &HostRuntime) -> io::Result<()> {
     for call in [Call::Read, Call::Copy] {
         report(rt, call, Size::Large, 3)?;
@@ -145,7 +160,7 @@ fn report_all(rt: &HostRuntime) -> io::Result<()> {
         report_graph(rt, Ask::Braid, shape, 20, 3)?;
         report_graph(rt, Ask::Ancestor, shape, 20, 3)?;
     }
-    Ok(())
+    report_disk(rt, 3)
 }
 
 fn main(rt: HostRuntime) -> io::Result<()> {
@@ -156,6 +171,7 @@ fn main(rt: HostRuntime) -> io::Result<()> {
             report_graph_words(&rt, &ask, &shape, &size, &rounds)
         }
         (Some(call), Some(size), Some(rounds), None) => report_words(&rt, &call, &size, &rounds),
+        (Some(call), Some(rounds), None, None) => report_disk_words(&rt, &call, &rounds),
         (Some(_), _, _, _) => usage(&rt),
         _ => report_all(&rt),
     }

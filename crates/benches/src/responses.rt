@@ -56,7 +56,7 @@ fn commands(alloc: Global, size: Size) -> Result<Commands, NoMemory>
 {
     let mut all = Commands::new(alloc);
     for _ in 0..64u8 {
-        all.push(basic(alloc, size)?)?;
+        all.push(alloc, basic(alloc, size)?)?;
     }
     Ok(all)
 }

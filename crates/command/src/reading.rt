@@ -18,7 +18,7 @@ pub fn from_bytes(alloc: Global, bytes: &[u8]) -> Result<Option<Command>, NoMemo
     or_none(read_whole(alloc, bytes))
 }
 
-/// The next command, which has its length in four bytes before it. After a refusal or want of memory the reader's place
+/// The next command, which has its length in four bytes before it. After a refusal or running out of memory the reader's place
 /// is left open.
 pub fn read_counted(alloc: Global, reader: &mut Reader) -> Result<Command, Unread>
     ensures read { Reads (λ command. command) result reader.new (reading.counted_command_at reader.old) }

@@ -44,7 +44,7 @@ updated old values rows =
 abbrev pub deleted : ℕ → List Value → List Row → Outcome
 deleted fact keys rows = if is_there fact keys rows then Ok (filter (λ row. not (is_at fact keys row)) rows) else Err fault.Missing
 
--- A write of this outcome leaves the new rows and answers Ok, or leaves the old ones and answers why. Want of memory may come instead of either, and leaves the old ones.
+-- A write of this outcome leaves the new rows and answers Ok, or leaves the old ones and answers why. Running out of memory may come instead of either, and leaves the old ones.
 abbrev pub Writes : Outcome → List Row → Result (Unit {0}) WriteFault → List Row → Type 0
 Writes outcome old (Ok done) new = outcome ≡ Ok new
 Writes outcome old (Err why) new = (new ≡ old) × ((why ≡ fault.NoMemory) ⊎ (outcome ≡ Err why))

@@ -65,16 +65,18 @@ fn a_sink_in_memory_keeps_what_it_took(rt: HostRuntime) -> Result<(), Fail> {
     Ok(())
 }
 
+// A write that is planned to fail leaves the first half of its piece.
 #[test]
 fn a_disk_in_memory_is_written(rt: HostRuntime) -> Result<(), Fail> {
     let alloc = rt.alloc();
     let bytes = Bytes::from_slice(alloc, b"abcd")?;
-    let mut disk = MemoryDisk::new(alloc, bytes, vec![in alloc; 3]?);
+    let mut disk = MemoryDisk::new(alloc, bytes, vec![in alloc; 3, 5]?);
     for (at, piece, works, want) in [
         (1, "XY", true, "aXYd"),
         (3, "12", true, "aXY12"),
-        (0, "lost", false, "aXY12"),
-        (5, "3", true, "aXY123"),
+        (0, "torn", false, "toY12"),
+        (5, "3", true, "toY123"),
+        (5, "4567", false, "toY1245"),
     ] {
         assert!(rt; at <= disk.bytes().len() as u64);
         assert!(rt;

@@ -5,7 +5,7 @@ ghost use Rattle.std.specs.Prelude.{◌<◌, ◌^◌, length};
 use crate::page::Page;
 use crate::shown_item::{kind_of, put_items};
 use base_bytes::NoMemory;
-use policy_ast::{Item, Policy, Token};
+use policy_ast::{PlacedItem, Policy, Token};
 use policy_lex::tokens;
 use policy_parse::{SyntaxFault, parse};
 use std::alloc::Global;
@@ -106,10 +106,10 @@ fn put_fault(page: &mut Page, reading: &Reading) {
     }
 }
 
-fn put_kinds(page: &mut Page, items: &[Item]) {
+fn put_kinds(page: &mut Page, items: &[PlacedItem]) {
     page.put_count(items.len());
     for kind in KINDS {
-        let count = items.iter().filter(|item| kind_of(item) == kind).count();
+        let count = items.iter().filter(|placed| kind_of(&placed.item) == kind).count();
         if count > 0 {
             page.put(", ");
             page.put_count(count);

@@ -3,13 +3,13 @@
 use crate::page::Page;
 use crate::shown_leaves::{put_field, put_fields, put_literal, put_type};
 use crate::shown_stmt::{put_block, put_finish};
-use policy_ast::{Attribute, EffectField, Field, Item, Name, Section};
+use policy_ast::{Attribute, EffectField, Field, Item, Name, PlacedItem, Section};
 
-pub fn put_items(page: &mut Page, items: &[Item]) {
+pub fn put_items(page: &mut Page, items: &[PlacedItem]) {
     let mut is_first = true;
-    for item in items {
+    for placed in items {
         page.put_between(is_first, "; ");
-        put_item(page, item);
+        put_item(page, &placed.item);
         is_first = false;
     }
 }

@@ -7,20 +7,24 @@ use Rattle.outside.specs.Disk.{Content, Moment, IsImage, overwritten, with_range
 use Rattle.outside.specs.working.Replaced.{undone, moment_after}
 use Rattle.outside.specs.declared.replaced.Replaced.{Replaced}
 
+-- the moment after one write more
 pub moment_more : (writes : List Replaced) (write : Replaced) (old new : List ℕ) → undone write new ≡ old →
     moment_after (reverse (writes ++ write ∷ [])) new ≡ with_range write.at write.range_length (moment_after (reverse writes) old)
 moment_more writes write old new back =
     ap (λ ws. moment_after ws new) (reverse-append writes (write ∷ []))
     ∙ ap (λ bytes. with_range write.at write.range_length (moment_after (reverse writes) bytes)) back
 
+-- how many bytes there are afterwards
 length_overwritten : (old front : List ℕ) (at : ℕ) → at ≤ length old → length (overwritten old at front) ≡ max (at + length front) (length old)
 length_overwritten old front at within = grind (arith, common_steps)
 
+-- a place outside the range keeps its byte
 stays_outside : (old front : List ℕ) (at n place : ℕ) → at ≤ length old → length front ≤ n → place < length old →
     (place < at) ⊎ (at + n ≤ place) → slice_index (overwritten old at front) place ≡ slice_index old place
 stays_outside old front at n place within short known (inl before) = grind (arith, common_steps)
 stays_outside old front at n place within short known (inr behind) = grind (arith, common_steps)
 
+-- the bytes after a write are an image, where those before it were one
 pub image_written : (moment : Moment) (old front : List ℕ) (at n : ℕ) → at ≤ length old → length front ≤ n → IsImage moment old →
     IsImage (with_range at n moment) (overwritten old at front)
 image_written moment old front at n within short is = record {
@@ -30,6 +34,7 @@ image_written moment old front at n within short is = record {
       ∙ is.outside place known (λ k d under. out (suc k) d (omega (arith, under)));
 }
 
+-- the parts of the bytes before a write, taken from those after it
 front_back : (old front : List ℕ) (at : ℕ) → at ≤ length old → take at (overwritten old at front) ≡ take at old
 front_back old front at within = grind (arith, common_steps)
 
@@ -43,22 +48,24 @@ parts_joined old at n =
     ∙ ap (λ behind. take at old ++ behind) (take-append-drop n (drop at old))
     ∙ take-append-drop at old
 
-pub undone_overwritten : (write : Replaced) (old front : List ℕ) → write.at ≤ length old → write.written ≡ length front →
-    write.under ≡ take write.written (drop write.at old) → undone write (overwritten old write.at front) ≡ old
+-- what a write replaced gives the bytes before it
+pub undone_overwritten : (write : Replaced) (old front : List ℕ) → write.at ≤ length old → write.written_length ≡ length front →
+    write.under ≡ take write.written_length (drop write.at old) → undone write (overwritten old write.at front) ≡ old
 undone_overwritten write old front within written under =
-    rw (front_back old front write.at within, behind_back old front write.at write.written within written, under) (parts_joined old write.at write.written)
+    rw (front_back old front write.at within, behind_back old front write.at write.written_length within written, under) (parts_joined old write.at write.written_length)
 
 -- what a write that is noted behind the others makes of the moment
 pub moment_written : (writes noted : List Replaced) (write : Replaced) (old new front : List ℕ) → noted ≡ writes ++ write ∷ [] →
-    new ≡ overwritten old write.at front → write.at ≤ length old → write.written ≡ length front →
-    write.under ≡ take write.written (drop write.at old) →
+    new ≡ overwritten old write.at front → write.at ≤ length old → write.written_length ≡ length front →
+    write.under ≡ take write.written_length (drop write.at old) →
     moment_after (reverse noted) new ≡ with_range write.at write.range_length (moment_after (reverse writes) old)
 moment_written writes noted write old new front pushed is within written under =
     rw (pushed, is) (moment_more writes write old (overwritten old write.at front) (undone_overwritten write old front within written under))
 
+-- the same of the image
 pub image_noted : (writes noted : List Replaced) (write : Replaced) (old new front : List ℕ) → noted ≡ writes ++ write ∷ [] →
-    new ≡ overwritten old write.at front → write.at ≤ length old → write.written ≡ length front →
-    write.under ≡ take write.written (drop write.at old) → length front ≤ write.range_length →
+    new ≡ overwritten old write.at front → write.at ≤ length old → write.written_length ≡ length front →
+    write.under ≡ take write.written_length (drop write.at old) → length front ≤ write.range_length →
     IsImage (moment_after (reverse writes) old) old → IsImage (moment_after (reverse noted) new) new
 image_noted writes noted write old new front pushed is within written under short image =
     rw (moment_written writes noted write old new front pushed is within written under, is)

@@ -6,7 +6,7 @@ pub struct Replaced {
     /// The place where it began.
     pub at: usize,
     /// How many bytes it wrote there.
-    pub written: usize,
+    pub written_length: usize,
     /// The bytes that stood there: fewer than were written where the write went past the end.
     pub under: Bytes,
     /// How many bytes count as written.

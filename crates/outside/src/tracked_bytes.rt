@@ -73,7 +73,7 @@ impl TrackedBytes {
         overwrite(&mut self.bytes, at, front)?;
         let write = Replaced {
             at,
-            written: front.len(),
+            written_length: front.len(),
             under,
             range_length,
         };

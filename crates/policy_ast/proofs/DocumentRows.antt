@@ -1,5 +1,5 @@
 -- The definition of a document's tokens, computed on small documents.
-use Rattle.std.proofs.Common.{◌≡◌, ℕ, pos, negsuc, List, [], ◌∷◌, ◌++◌, codes, replicate, refl, Ok, Err}
+use Rattle.std.proofs.Common.{◌≡◌, ℕ, pos, negsuc, List, [], ◌∷◌, ◌++◌, codes, replicate, refl, Ok, Err, Some, None}
 use lib.Utf8.{encode}
 use Rattle.std.specs.Str.{is_utf8, chars}
 use Rattle.std.specs.Str.Lossy.{utf8_valid_len}
@@ -8,9 +8,10 @@ use Rattle.policy_ast.specs.declared.token.TokenKind.{TokenKind}
 use Rattle.policy_ast.specs.declared.token.TokenKind.TheVariants.{Word, Number, Quoted, Symbol}
 use Rattle.policy_ast.specs.declared.symbols.TheConstants.{ARROW, BAR, EQUALS, GREATER, UNDERSCORE}
 use Rattle.policy_ast.specs.Fences.{blocks_from}
-use Rattle.policy_ast.specs.DocumentTokens.{document_tokens, tokens_from}
+use Rattle.policy_ast.specs.DocumentTokens.{document_tokens, document_version, tokens_from}
 use Rattle.policy_ast.specs.DocumentFault.{NotUtf8, NoFrontMatter, WrongVersion, OpenBlock, BadToken}
 use Rattle.policy_ast.specs.Lines.{document_lines, lines_of_parts}
+use Rattle.policy_ast.specs.Version.{Two}
 use Rattle.policy_ast.specs.TokenForms.{block_comment_at, comment_end, line_comment_at, number_at, quoted_at, separator_at, symbol_at, text_from, word_at}
 
 -- a document of a front matter and one policy block with this line in it, which is line 5
@@ -85,3 +86,35 @@ a_block_left_open = refl
 another_block_left_open : document_tokens (codes "---\npolicy-version: 2\n---\n```rust\n;\n``\n") ≡ Ok []
 unfolding document_tokens is_utf8 chars encode lines_of_parts blocks_from
 another_block_left_open = refl
+
+escapes_take_their_next_byte : quoted_at (codes "\"a\\\\\" \"") ≡ Some (Quoted (codes "a\\"), 5)
+unfolding quoted_at text_from
+escapes_take_their_next_byte = refl
+
+an_escape_that_is_not_ended : quoted_at (codes "\"a\\\"") ≡ None
+unfolding quoted_at text_from
+an_escape_that_is_not_ended = refl
+
+a_backslash_before_no_escape : quoted_at (codes "\"\\t\"") ≡ None
+unfolding quoted_at text_from
+a_backslash_before_no_escape = refl
+
+a_text_over_two_lines : quoted_at (codes "\"a\nb\"") ≡ None
+unfolding quoted_at text_from
+a_text_over_two_lines = refl
+
+a_slash_behind_a_star_ends_no_comment_that_it_begins : block_comment_at (codes "/*/ */") ≡ Some 6
+unfolding block_comment_at comment_end
+a_slash_behind_a_star_ends_no_comment_that_it_begins = refl
+
+the_first_key_wins : document_tokens (codes "---\npolicy-version: 1\npolicy-version: 2\n---\n") ≡ Err (WrongVersion 2)
+unfolding document_tokens is_utf8 chars encode lines_of_parts
+the_first_key_wins = refl
+
+a_bad_token_before_an_open_block : document_tokens (codes "---\npolicy-version: 2\n---\n```policy\n;\n```\n```policy\n") ≡ Err (OpenBlock 7)
+unfolding document_tokens is_utf8 chars encode lines_of_parts blocks_from
+a_bad_token_before_an_open_block = refl
+
+a_document_is_of_its_version : document_version (codes "---\npolicy-version: 2\n---\n") ≡ Some Two
+unfolding lines_of_parts
+a_document_is_of_its_version = refl

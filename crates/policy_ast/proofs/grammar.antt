@@ -1,5 +1,6 @@
 -- Lemmas about the grammar.
 pub mod Reading
+pub mod Tails
 pub mod Laws
 pub mod Loops
 pub mod Facts

@@ -30,25 +30,26 @@ abbrev pub opens_policy : List ℕ → Bool
 opens_policy text = bytes_eq (take_while (λ c. not (is_space c)) (unindented (behind_backticks text))) (codes "policy")
 
 -- the bytes of a policy block: from the place behind the line that opens it to that of the line that closes it
-pub record Block : Type 0 where
+pub record PolicyBlock : Type 0 where
   pub from : ℕ
   pub to : ℕ
 
-abbrev pub Blocks : Type 0
-Blocks = Result (List Block) DocumentFault
+-- blocks, or the fault that keeps a document from having any
+abbrev pub BlocksResult : Type 0
+BlocksResult = Result (List PolicyBlock) DocumentFault
 
-abbrev pub with_block : Block → Blocks → Blocks
+abbrev pub with_block : PolicyBlock → BlocksResult → BlocksResult
 with_block block (Ok blocks) = Ok (block ∷ blocks)
 with_block block (Err fault) = Err fault
 
 -- a block from the line that opens it, with the lines from the closing one on, and the blocks behind these
-abbrev pub with_opened : List ℕ → Line → Bool → List Line → Blocks → Blocks
+abbrev pub with_opened : List ℕ → Line → Bool → List Line → BlocksResult → BlocksResult
 with_opened document opening true [] blocks = Err (OpenBlock (line_number document opening.start))
 with_opened document opening true (closing ∷ lines) blocks = with_block (record { from = opening.next; to = closing.start }) blocks
 with_opened document opening false lines blocks = blocks
 
 -- the policy blocks of lines, of which so many in front belong to a block before: these open none
-unfoldable pub blocks_from : ℕ → List ℕ → List Line → Blocks
+unfoldable pub blocks_from : ℕ → List ℕ → List Line → BlocksResult
 blocks_from inside document [] = Ok []
 blocks_from (suc inside) document (line ∷ lines) = blocks_from inside document lines
 blocks_from zero document (line ∷ lines) =

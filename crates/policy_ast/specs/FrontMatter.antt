@@ -1,10 +1,10 @@
 -- The front matter of a document, which gives the version.
-use Rattle.std.specs.Prelude.{ℕ, Bool, ◌==◌, ◌&&◌, ◌||◌, not, if◌then◌else◌, List, [], ◌∷◌, length, drop, codes, Option, Some, None, Result, Ok, Err}
+use Rattle.std.specs.Prelude.{ℕ, Bool, ◌==◌, ◌&&◌, ◌||◌, not, if◌then◌else◌, List, [], ◌∷◌, ◌++◌, length, drop, codes, Option, Some, None, option_map}
 use Rattle.std.specs.List.{after_first, before_first, find, list_any, take_while}
 use Rattle.std.specs.Str.{byte}
-use Rattle.policy_ast.specs.DocumentFault.{DocumentFault, NoFrontMatter, WrongVersion}
-use Rattle.policy_ast.specs.Lines.{Line, line_number}
+use Rattle.policy_ast.specs.Lines.{Line}
 use Rattle.policy_ast.specs.Spaces.{is_before_spaces, is_between_spaces}
+use Rattle.policy_ast.specs.Version.{Version, Two}
 
 -- a line that begins or ends the front matter: `---`, trailing spaces aside
 abbrev pub is_rule : List ℕ → Bool
@@ -17,29 +17,36 @@ is_colon c = c == byte ":"
 abbrev pub gives_version : List ℕ → Bool
 gives_version text = list_any is_colon text && is_between_spaces (codes "policy-version") (before_first is_colon text)
 
--- the text behind the colon is `2`, spaces around it and then one pair of quotation marks aside
-abbrev pub is_version_two : List ℕ → Bool
-is_version_two text =
-    let version = after_first is_colon text in
-    is_between_spaces (codes "2") version || is_between_spaces (codes "\"2\"") version
+-- a text is this name, spaces around it and then one pair of quotation marks aside
+abbrev pub names : List ℕ → List ℕ → Bool
+names name text = is_between_spaces name text || is_between_spaces (codes "\"" ++ name ++ codes "\"") text
 
--- lines, where the line that gives the version, if there is one, gives the right one
-abbrev pub versioned : List ℕ → Option Line → List Line → Result (List Line) DocumentFault
-versioned document None behind = Err NoFrontMatter
-versioned document (Some line) behind = if is_version_two line.text then Ok behind else Err (WrongVersion (line_number document line.start))
+-- the version that a line names behind its first colon, if it is one of these
+abbrev pub named_version : List ℕ → Option Version
+named_version text = if names (codes "2") (after_first is_colon text) then Some Two else None
 
--- the lines behind the one that ends the front matter, where those inside it give the right version
-abbrev pub ended : List ℕ → List Line → List Line → Result (List Line) DocumentFault
-ended document inside [] = Err NoFrontMatter
-ended document inside (end ∷ behind) = versioned document (find (λ line. gives_version line.text) inside) behind
+-- what a front matter says: the line that gives the version, the version that it names, and the lines behind the end
+pub record FrontMatter : Type 0 where
+  pub key : Line
+  pub version : Option Version
+  pub behind : List Line
 
--- the same of the lines behind the first one
-abbrev pub behind_rule : List ℕ → List Line → Result (List Line) DocumentFault
-behind_rule document lines =
+-- of the lines inside, the first that gives the version
+abbrev pub with_key : Option Line → List Line → Option FrontMatter
+with_key found behind = option_map (λ line. record { key = line; version = named_version line.text; behind = behind }) found
+
+-- the lines inside a front matter, and those from its end on
+abbrev pub closed : List Line → List Line → Option FrontMatter
+closed inside [] = None
+closed inside (end ∷ behind) = with_key (find (λ line. gives_version line.text) inside) behind
+
+-- the front matter of the lines behind the first one
+abbrev pub behind_rule : List Line → Option FrontMatter
+behind_rule lines =
     let inside = take_while (λ line. not (is_rule line.text)) lines in
-    ended document inside (drop (length inside) lines)
+    closed inside (drop (length inside) lines)
 
--- the lines of a document that stand behind its front matter
-abbrev pub behind_front_matter : List ℕ → List Line → Result (List Line) DocumentFault
-behind_front_matter document [] = Err NoFrontMatter
-behind_front_matter document (first ∷ lines) = if is_rule first.text then behind_rule document lines else Err NoFrontMatter
+-- the front matter that lines begin with; none where the first line, the end or the key is missing
+abbrev pub front_matter : List Line → Option FrontMatter
+front_matter [] = None
+front_matter (first ∷ lines) = if is_rule first.text then behind_rule lines else None

@@ -1,4 +1,6 @@
 -- The definitions that the contracts of this crate cite.
+pub mod Version
+pub mod Symbols
 pub mod grammar
 pub mod Laws
 pub mod Words
@@ -8,4 +10,5 @@ pub mod Spaces
 pub mod FrontMatter
 pub mod Fences
 pub mod TokenForms
+pub mod TokenLaws
 pub mod DocumentTokens

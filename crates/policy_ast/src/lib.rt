@@ -10,23 +10,28 @@ pub mod laws;
 mod literal;
 mod name;
 mod part;
+mod pattern;
 mod policy;
 mod statement;
 pub mod symbols;
 mod token;
+pub mod token_laws;
 mod variants;
+mod version;
 
-pub use bind::{Bind, Free, Pattern};
+pub use bind::Bind;
 pub use expr::{
     Arithmetic, Comparison, Count, ElseExpr, Expr, ExprBlock, IfExpr, Let, Presence, Unary,
 };
 pub use field::{EffectField, Field, FieldType};
 pub use finish::FinishStmt;
 pub use item::{Attribute, Item, Section};
-pub use literal::{Literal, PatternLiteral};
+pub use literal::Literal;
 pub use name::{Name, is_name};
 pub use part::Part;
-pub use policy::Policy;
-pub use statement::{Arm, ArmPattern, Else, IfStmt, Stmt};
+pub use pattern::{ArmPattern, Free, Pattern, PatternLiteral};
+pub use policy::{PlacedItem, Policy};
+pub use statement::{Arm, Else, IfStmt, Stmt};
 pub use token::{Token, TokenKind};
 pub use variants::VariantNames;
+pub use version::Version;

@@ -11,11 +11,3 @@ pub enum Literal {
     /// `Enum::Variant`
     Variant(Name, Name),
 }
-
-/// A value that an arm of a `match` takes.
-#[derive(Drop)]
-pub enum PatternLiteral {
-    Literal(Literal),
-    /// `None`, which an optional value may be.
-    None,
-}

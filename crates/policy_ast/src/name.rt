@@ -1,6 +1,7 @@
 ghost use Rattle.std.specs.Prelude.{◌≡◌, ◌↔◌, IfOk, IfSome, IsSome, IsTrue};
 ghost use Rattle.std.specs.List.{list_any};
 ghost use Rattle.std.specs.Str.{bytes_eq};
+ghost use Rattle.policy_ast.specs.Version.{Two};
 ghost use Rattle.policy_ast.specs.Words.{is_name, is_reserved};
 
 use base_bytes::{NoMemory, Text, is_word};
@@ -15,19 +16,20 @@ pub struct Name {
 
 impl Model for Name {
     ghost use Rattle.std.specs.Prelude.{List, ℕ, IsTrue};
+    ghost use Rattle.policy_ast.specs.Version.{Two};
     ghost use Rattle.policy_ast.specs.Words.{is_name};
 
     ghost Value = { List ℕ };
 
     ghost view = { λ n. n.text };
 
-    ghost invariant = { λ n. IsTrue (is_name n.text) };
+    ghost invariant = { λ n. IsTrue (is_name Two n.text) };
 }
 
 impl Name {
     /// The name of this text, which is kept as it is, and None exactly where the text is no name. Takes no memory.
     pub fn new(text: Text) -> Option<Name>
-        ensures found { IsSome result ↔ IsTrue (is_name text) }
+        ensures found { IsSome result ↔ IsTrue (is_name Two text) }
         ensures value { IfSome result (λ n. n ≡ text) }
     {
         if is_name(text.as_slice()) {
@@ -39,7 +41,7 @@ impl Name {
 
     pub fn as_str(&self) -> &str
         ensures text { result.now ≡ self.now }
-        ensures name { IsTrue (is_name self.now) }
+        ensures name { IsTrue (is_name Two self.now) }
     {
         self.text.as_str()
     }
@@ -76,7 +78,7 @@ impl Eq for Name {
 
 /// Whether bytes are a name: a word that isn't reserved.
 pub fn is_name(bytes: &[u8]) -> bool
-    ensures { result ≡ is_name bytes.now }
+    ensures { result ≡ is_name Two bytes.now }
 {
     is_word(bytes) && !is_reserved(bytes)
 }
@@ -128,7 +130,7 @@ const RESERVED: [&str; 41] = [
 
 #[tactic(auto, unfolding(crate::specs::Words::is_reserved))]
 fn is_reserved(word: &[u8]) -> bool
-    ensures { result ≡ is_reserved word.now }
+    ensures { result ≡ is_reserved Two word.now }
 {
     is_among(&RESERVED, word)
 }

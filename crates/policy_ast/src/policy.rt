@@ -4,21 +4,28 @@ use crate::Item;
 use sqlite_items::Items;
 use std::marker::Model;
 
-/// The items of a policy in their order, fewer than 2^32 of them. Contracts see it as the list of items.
+/// An item and the line, counted from 1, of the token with which it begins.
+#[derive(Drop)]
+pub struct PlacedItem {
+    pub line: u32,
+    pub item: Item,
+}
+
+/// The items of a policy in their order, fewer than 2^32 of them. Contracts see it as the list of items with their lines.
 #[derive(Drop)]
 pub struct Policy {
-    items: Items<Item>,
+    items: Items<PlacedItem>,
 }
 
 impl Model for Policy {
     ghost use Rattle.std.specs.Prelude.{List, ◌<◌, ◌^◌, length};
     ghost use Rattle.std.specs.Coded.{coded_list};
-    ghost use Rattle.policy_ast.specs.declared.item.Item.{Item};
-    ghost use Rattle.policy_ast.specs.contracts.item.Item as item;
+    ghost use Rattle.policy_ast.specs.declared.policy.PlacedItem.{PlacedItem};
+    ghost use Rattle.policy_ast.specs.contracts.policy.PlacedItem as placed_item;
 
-    ghost Value = { List Item };
+    ghost Value = { List PlacedItem };
 
-    ghost coded = { coded_list item.the_row.coded };
+    ghost coded = { coded_list placed_item.the_row.coded };
 
     ghost view = { λ p. p.items };
 
@@ -26,7 +33,7 @@ impl Model for Policy {
 }
 
 impl Policy {
-    pub fn new(items: Items<Item>) -> Policy
+    pub fn new(items: Items<PlacedItem>) -> Policy
         requires { length items < 2 ^ 32 }
         ensures { result ≡ items }
     {
@@ -34,7 +41,7 @@ impl Policy {
     }
 
     /// The items in their order.
-    pub fn items(&self) -> &[Item]
+    pub fn items(&self) -> &[PlacedItem]
         ensures value { result.now ≡ self.now }
         ensures few { length self.now < 2 ^ 32 }
     {

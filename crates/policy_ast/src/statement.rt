@@ -1,4 +1,4 @@
-use crate::{Expr, FinishStmt, Let, Name, Pattern, PatternLiteral};
+use crate::{ArmPattern, Expr, FinishStmt, Let, Name, Pattern};
 use sqlite_items::{Boxed, Items};
 
 /// A statement.
@@ -37,13 +37,4 @@ pub enum Else<S> {
 pub struct Arm<S> {
     pub pattern: ArmPattern,
     pub body: Items<S>,
-}
-
-/// Which values an arm takes.
-#[derive(Drop)]
-pub enum ArmPattern {
-    /// `_`
-    Any,
-    /// Any of these, of which there is at least one.
-    Literals(Items<PatternLiteral>),
 }

@@ -4,11 +4,11 @@ use Rattle.std.proofs.Math.Nat.{le_refl, le_trans}
 use Rattle.std.specs.List.{take_while}
 use Rattle.std.proofs.lemmas.List.{drop-drop, map-append}
 use Rattle.std.proofs.lemmas.List.Sums.{take_while-cons}
-use Rattle.policy_ast.specs.Fences.{Blocks, backticks, blocks_from, is_closing, is_fence, opens_policy, with_block, with_opened}
+use Rattle.policy_ast.specs.Fences.{BlocksResult, backticks, blocks_from, is_closing, is_fence, opens_policy, with_block, with_opened}
 use Rattle.policy_ast.specs.Lines.{Line}
-use Rattle.policy_lex.specs.BlockViews.{AreBlocks, IsBlock, from_closing, plain}
+use Rattle.policy_lex.specs.working.BlockViews.{AreBlocks, IsBlock, from_closing, plain}
 use Rattle.policy_lex.specs.declared.blocks.Block.{Block}
-use Rattle.policy_lex.specs.LineViews.{lines_at}
+use Rattle.policy_lex.specs.working.LineViews.{lines_at}
 use Rattle.policy_lex.proofs.LineSteps.{no_lines}
 
 -- lines that belong to a block before open none
@@ -61,20 +61,20 @@ pub closing_past : (count : ℕ) (document : List ℕ) (place : ℕ) → length 
 closing_past count document place past = ap (from_closing count) (no_lines document place past)
 
 -- blocks in front of others
-abbrev pub with_plain : List Block → Blocks → Blocks
-with_plain front (Ok blocks) = Ok (map plain front ++ blocks)
-with_plain front (Err fault) = Err fault
+abbrev pub with_plain : List Block → BlocksResult → BlocksResult
+with_plain prefix (Ok blocks) = Ok (map plain prefix ++ blocks)
+with_plain prefix (Err fault) = Err fault
 
-pub with_one_more : (front : List Block) (block : Block) (blocks : Blocks) → with_plain (front ++ block ∷ []) blocks ≡ with_plain front (with_block (plain block) blocks)
-with_one_more front block (Ok blocks) = ap Ok (ap (λ bs. bs ++ blocks) (map-append plain front (block ∷ [])) ∙ append_assoc (map plain front) (plain block ∷ []) blocks)
-with_one_more front block (Err fault) = refl
+pub with_one_more : (prefix : List Block) (block : Block) (blocks : BlocksResult) → with_plain (prefix ++ block ∷ []) blocks ≡ with_plain prefix (with_block (plain block) blocks)
+with_one_more prefix block (Ok blocks) = ap Ok (ap (λ bs. bs ++ blocks) (map-append plain prefix (block ∷ [])) ∙ append_assoc (map plain prefix) (plain block ∷ []) blocks)
+with_one_more prefix block (Err fault) = refl
 
-pub with_none : (blocks : Blocks) → with_plain [] blocks ≡ blocks
+pub with_none : (blocks : BlocksResult) → with_plain [] blocks ≡ blocks
 with_none (Ok blocks) = refl
 with_none (Err fault) = refl
 
-pub with_no_more : (front : List Block) → with_plain front (Ok []) ≡ Ok (map plain front)
-with_no_more front = ap Ok (append-nil (map plain front))
+pub with_no_more : (prefix : List Block) → with_plain prefix (Ok []) ≡ Ok (map plain prefix)
+with_no_more prefix = ap Ok (append-nil (map plain prefix))
 
 -- the end of blocks may be later
 pub blocks_until : (document : List ℕ) (place : ℕ) (blocks : List Block) (end later : ℕ) → end ≤ later → AreBlocks document place blocks end → AreBlocks document place blocks later

@@ -6,7 +6,7 @@ use Rattle.std.specs.Str.Parse.{digits_value_after}
 use Rattle.std.proofs.lemmas.Bool.{lt-leb}
 use Rattle.std.proofs.lemmas.List.Sums.{take_while-cons}
 use Rattle.policy_lex.proofs.Drops.{dropped}
-use Rattle.policy_lex.specs.Numbers.{size_up_to}
+use Rattle.policy_lex.specs.working.Numbers.{size_up_to}
 
 -- digits behind a number make none that is smaller
 digits_grow : (n : ℕ) (digits : List ℕ) → n ≤ digits_value_after 10 n digits

@@ -6,11 +6,9 @@ pub mod FirstPlaces
 pub mod FrontSteps
 pub mod LineNumbers
 pub mod LineSteps
-pub mod TokenSlices
 pub mod TokenSteps
 pub mod WordRuns
 pub mod Comments
 pub mod Digits
-pub mod Slices
 pub mod TextUtf8
 pub mod Texts

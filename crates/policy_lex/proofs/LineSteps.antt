@@ -10,7 +10,7 @@ use Rattle.std.proofs.lemmas.Bool.Decides.{nat_tests}
 use Rattle.std.proofs.Math.Seq.{drop-length}
 use Rattle.std.proofs.Math.ListN.{drop_of_length-le}
 use Rattle.policy_ast.specs.Lines.{is_line_feed, lines_from, lines_of_parts}
-use Rattle.policy_lex.specs.LineViews.{lines_at}
+use Rattle.policy_lex.specs.working.LineViews.{lines_at}
 
 -- a part with others behind it is a line without its carriage return
 parts_more : (start : ℕ) (x : List ℕ) (parts : List (List ℕ)) → 0 < length parts →

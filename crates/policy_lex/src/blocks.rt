@@ -1,10 +1,8 @@
 ghost use Rattle.std.specs.Prelude.{◌≡◌, ◌^◌, ◌<◌, ◌≤◌, [], ◌∷◌, ◌++◌, IfOk, IfSome, OnOk, MatchOption, length};
 ghost use Rattle.policy_ast.specs.Fences.{blocks_from};
-ghost use Rattle.policy_lex.specs.Answers.{IsAnswer};
-ghost use Rattle.policy_lex.specs.BlockViews.{AreBlocks, IsPart, blocks_of_part, from_closing, plain_blocks};
-ghost use Rattle.policy_lex.specs.LineViews.{lines_at, seen};
+ghost use Rattle.policy_lex.specs.working.BlockViews.{AreBlocks, IsPart, blocks_of_part, from_closing, plain_blocks};
+ghost use Rattle.policy_lex.specs.working.LineViews.{lines_at, seen};
 
-use crate::LexFault;
 use crate::fences::{backticks, is_closing, is_fence, opens_policy};
 use crate::lines::{Line, line_at, line_feeds};
 use base_bytes::NoMemory;
@@ -19,12 +17,19 @@ pub struct Block {
     pub line: usize,
 }
 
+/// The policy blocks of a document, and the number of the line that opens the one in which the document ends, if there is one.
+#[derive(Drop)]
+pub struct FoundBlocks {
+    pub blocks: Items<Block>,
+    pub unclosed: Option<u32>,
+}
+
 /// The policy blocks of the lines from a place on.
-pub fn policy_blocks(alloc: Global, document: &[u8], start: usize) -> Result<Items<Block>, LexFault>
+pub fn policy_blocks(alloc: Global, document: &[u8], start: usize) -> Result<FoundBlocks, NoMemory>
     requires short { length document.now < 2 ^ 32 }
     requires within { start ≤ length document.now }
-    ensures answer { IsAnswer (blocks_from 0 document.now (lines_at document.now start)) (plain_blocks result) }
-    ensures places { IfOk result (λ blocks. AreBlocks document.now start blocks (length document.now)) }
+    ensures blocks { IfOk result (λ found. blocks_from 0 document.now (lines_at document.now start) ≡ plain_blocks found.unclosed found.blocks) }
+    ensures places { IfOk result (λ found. AreBlocks document.now start found.blocks (length document.now)) }
 {
     let mut blocks = Items::new(alloc);
     let mut place = start;
@@ -38,12 +43,18 @@ pub fn policy_blocks(alloc: Global, document: &[u8], start: usize) -> Result<Ite
                 next
             }
             Part::Other { next } => next,
-            Part::Open => return Err(LexFault::OpenBlock(number as u32)),
+            Part::Open => {
+                let unclosed = Some(number as u32);
+                return Ok(FoundBlocks { blocks, unclosed });
+            }
         };
         number += line_feeds(&document[place..next]);
         place = next;
     }
-    Ok(blocks)
+    Ok(FoundBlocks {
+        blocks,
+        unclosed: None,
+    })
 }
 
 fn push_block(blocks: &mut Items<Block>, block: Block) -> Result<(), NoMemory>

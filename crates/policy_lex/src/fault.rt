@@ -1,6 +1,6 @@
 use base_bytes::NoMemory;
 
-/// Why a document has no tokens, or want of memory. The number is that of a line, counted from 1.
+/// Why a document has no tokens, or that memory ran out. The number is that of a line, counted from 1.
 #[derive(Clone, Copy, Debug, PartialEq, Eq)]
 pub enum LexFault {
     /// The document isn't UTF-8; the line is that of the first byte that belongs to no character.

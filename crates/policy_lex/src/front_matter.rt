@@ -1,70 +1,76 @@
-ghost use Rattle.std.specs.Prelude.{◌≡◌, ◌^◌, ◌<◌, ◌≤◌, IfOk, IfSome, length};
+ghost use Rattle.std.specs.Prelude.{◌≡◌, ◌^◌, ◌<◌, ◌≤◌, IfSome, length, option_map};
 ghost use Rattle.std.specs.List.{after_first, position};
-ghost use Rattle.policy_ast.specs.FrontMatter.{behind_front_matter, gives_version, is_colon, is_rule, is_version_two};
+ghost use Rattle.policy_ast.specs.FrontMatter.{front_matter, gives_version, is_colon, is_rule, named_version};
 ghost use Rattle.policy_ast.specs.Lines.{document_lines};
-ghost use Rattle.policy_lex.specs.Answers.{IsAnswer};
-ghost use Rattle.policy_lex.specs.FrontMatters.{judged, lines_behind, version_of};
-ghost use Rattle.policy_lex.specs.LineViews.{lines_at, seen};
+ghost use Rattle.policy_lex.specs.working.FrontMatters.{closed_by, found, key_of, placed};
+ghost use Rattle.policy_lex.specs.working.LineViews.{lines_at, seen};
 
-use crate::LexFault;
-use crate::lines::{Line, line_at, line_number};
+use crate::lines::{Line, line_at};
 use crate::spaces::{is_before_spaces, is_between_spaces};
+use policy_ast::Version;
 
-/// The place behind the front matter.
-pub fn behind_front_matter(document: &[u8]) -> Result<usize, LexFault>
-    requires { length document.now < 2 ^ 32 }
-    ensures answer { IsAnswer (behind_front_matter document.now (document_lines document.now)) (lines_behind document.now result) }
-    ensures within { IfOk result (λ place. place ≤ length document.now) }
+/// The front matter of a document: the place of the line that gives the version, the version that it names, and the place
+/// behind the end.
+#[derive(Clone, Copy)]
+pub struct FrontMatter {
+    pub key: usize,
+    pub version: Option<Version>,
+    pub behind: usize,
+}
+
+/// The front matter that a document begins with; none where the first line, the end or the key is missing.
+pub fn front_matter(document: &[u8]) -> Option<FrontMatter>
+    ensures front { option_map (found document.now) result ≡ option_map placed (front_matter (document_lines document.now)) }
+    ensures key { IfSome result (λ front. front.key < length document.now) }
+    ensures within { IfSome result (λ front. front.behind ≤ length document.now) }
 {
     if document.is_empty() {
-        return Err(LexFault::NoFrontMatter);
+        return None;
     }
     let first = line_at(document, 0);
     if !is_rule(first.text) {
-        return Err(LexFault::NoFrontMatter);
+        return None;
     }
     let mut place = first.next;
-    let mut version = None;
+    let mut key = None;
     while place < document.len() {
         let line = line_at(document, place);
         if is_rule(line.text) {
-            return judged(document, version, line.next);
+            return closed_by(key, line.next);
         }
-        version = version.or(version_of(line));
+        key = key.or(key_of(line));
         place = line.next;
     }
-    Err(LexFault::NoFrontMatter)
+    None
 }
 
-/// A line that gives the version: where it begins, and whether it gives the right one.
+/// A line that gives the version: where it begins, and the version that it names.
 #[derive(Clone, Copy)]
-struct Version {
+struct Key {
     start: usize,
-    is_two: bool,
+    version: Option<Version>,
 }
 
-/// The place behind the front matter, where it has this version.
-fn judged(document: &[u8], version: Option<Version>, behind: usize) -> Result<usize, LexFault>
-    requires short { length document.now < 2 ^ 32 }
-    requires version { IfSome version (λ v. v.start < length document.now) }
-    ensures answer { IsAnswer (judged document.now version (lines_at document.now behind)) (lines_behind document.now result) }
-    ensures place { IfOk result (λ place. place ≡ behind) }
+/// The front matter that a line ends, by the key that was found before it.
+fn closed_by(key: Option<Key>, behind: usize) -> Option<FrontMatter>
+    ensures { result ≡ closed_by key behind }
 {
-    match version {
-        None => Err(LexFault::NoFrontMatter),
-        Some(Version { is_two: true, .. }) => Ok(behind),
-        Some(Version { start, .. }) => Err(LexFault::WrongVersion(line_number(document, start))),
-    }
+    let Key { start, version } = key?;
+    Some(FrontMatter {
+        key: start,
+        version,
+        behind,
+    })
 }
 
-/// The version that a line gives.
-fn version_of(line: Line) -> Option<Version>
-    ensures { result ≡ version_of (seen line.entry) }
+/// The version's key, where a line is that.
+fn key_of(line: Line) -> Option<Key>
+    ensures { result ≡ key_of (seen line.entry) }
 {
     if gives_version(line.text) {
-        Some(Version {
+        Some(Key {
             start: line.start,
-            is_two: is_version_two(line.text),
+            version: named_version(line.text),
         })
     } else {
         None
@@ -87,12 +93,16 @@ fn gives_version(text: &[u8]) -> bool
     }
 }
 
-/// Whether the version behind the colon is the right one, with or without quotation marks.
-fn is_version_two(text: &[u8]) -> bool
-    ensures { result ≡ is_version_two text.now }
+/// The version that stands behind the colon, with or without quotation marks, if it is one of these.
+fn named_version(text: &[u8]) -> Option<Version>
+    ensures { result ≡ named_version text.now }
 {
     let version = behind_colon(text);
-    is_between_spaces(b"2", version) || is_between_spaces(b"\"2\"", version)
+    if is_between_spaces(b"2", version) || is_between_spaces(b"\"2\"", version) {
+        Some(Version::Two)
+    } else {
+        None
+    }
 }
 
 /// What stands behind the first colon; nothing where there is none.

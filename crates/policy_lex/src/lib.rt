@@ -7,7 +7,6 @@ mod document;
 mod fault;
 mod fences;
 mod front_matter;
-mod gaps;
 mod lines;
 mod number;
 mod prefix;
@@ -15,8 +14,10 @@ mod quoted;
 mod spaces;
 mod symbol;
 mod token;
+mod trivia;
 mod word;
 
 pub use document::tokens;
 pub use fault::LexFault;
+pub use lines::{line_end, without_carriage_return};
 pub use number::number_at;

@@ -2,7 +2,7 @@ ghost use Rattle.std.specs.Prelude.{◌≡◌, ◌==◌, ◌^◌, ◌<◌, ◌�
 ghost use Rattle.std.specs.List.{position};
 ghost use Rattle.std.specs.Str.Lines.{strip_carriage_return};
 ghost use Rattle.policy_ast.specs.Lines.{is_line_feed, line_number};
-ghost use Rattle.policy_lex.specs.LineViews.{lines_at, seen};
+ghost use Rattle.policy_lex.specs.working.LineViews.{lines_at, seen};
 
 /// A line: its text, the place where it begins, and the place where what follows it begins.
 #[derive(Clone, Copy)]
@@ -36,7 +36,7 @@ pub fn line_at(document: &[u8], place: usize) -> Line<'_>
 }
 
 /// A line without the carriage return at its end, if it has one.
-fn without_carriage_return(line: &[u8]) -> &[u8]
+pub fn without_carriage_return(line: &[u8]) -> &[u8]
     ensures { result.now ≡ strip_carriage_return line.now }
 {
     if line.last() == Some(&b'\r') {
@@ -47,7 +47,7 @@ fn without_carriage_return(line: &[u8]) -> &[u8]
 }
 
 /// The place of the first line feed.
-fn line_end(text: &[u8]) -> Option<usize>
+pub fn line_end(text: &[u8]) -> Option<usize>
     ensures place { result ≡ position is_line_feed text.now }
     ensures within { IfSome result (λ end. end < length text.now) }
 {

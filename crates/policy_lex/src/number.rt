@@ -3,7 +3,7 @@ ghost use Rattle.std.specs.Char.{digit_value, is_ascii_digit};
 ghost use Rattle.std.specs.List.{list_all, take_while};
 ghost use Rattle.std.specs.Str.Parse.{digits_value};
 ghost use Rattle.policy_ast.specs.TokenForms.{number_at, number_behind, number_of};
-ghost use Rattle.policy_lex.specs.Numbers.{in_range, signed, size_up_to};
+ghost use Rattle.policy_lex.specs.working.Numbers.{in_range, signed, size_up_to};
 
 use policy_ast::TokenKind;
 

@@ -1,6 +1,6 @@
-ghost use Rattle.std.specs.Prelude.{◌≡◌, ◌<◌, ◌≤◌, false, IfOk, IfSome, length};
-ghost use Rattle.policy_ast.specs.TokenForms.{quoted_at, text_from};
-ghost use Rattle.policy_lex.specs.QuotedTexts.{HoldsText, step_of};
+ghost use Rattle.std.specs.Prelude.{◌≡◌, ◌<◌, ◌≤◌, IfOk, IfSome, length};
+ghost use Rattle.policy_ast.specs.TokenForms.{escaped, quoted_at, text_from};
+ghost use Rattle.policy_lex.specs.working.QuotedTexts.{HoldsText, IsWithin, meaning, step_at};
 
 use crate::prefix::behind;
 use base_bytes::{Bytes, NoMemory, Text};
@@ -29,48 +29,64 @@ pub fn quoted_at(alloc: Global, bytes: &[u8]) -> Result<Option<(TokenKind, usize
 
 /// The text that bytes write up to its closing mark, and how many bytes these are with the mark.
 fn text_from(alloc: Global, bytes: &[u8]) -> Result<Option<(Bytes, usize)>, NoMemory>
-    ensures text { IfOk result (λ o. o ≡ text_from false bytes.now) }
+    ensures text { IfOk result (λ o. o ≡ text_from bytes.now) }
     ensures within { IfOk result (λ o. IfSome o (λ text. text.1 ≤ length bytes.now)) }
 {
     let mut text = Bytes::new(alloc);
-    let mut follows_backslash = false;
-    for (i, byte) in bytes.iter().enumerate() {
-        match step_of(follows_backslash, *byte) {
-            Step::Closes => return Ok(Some((text, i + 1))),
+    let mut place = 0;
+    while place < bytes.len() {
+        match step_at(&bytes[place..]) {
+            Step::Closes => return Ok(Some((text, place + 1))),
             Step::Breaks => return Ok(None),
-            Step::Escapes => follows_backslash = true,
-            Step::Means(meant) => {
-                text.push(alloc, meant)?;
-                follows_backslash = false;
+            Step::Means { byte, size } => {
+                text.push(alloc, byte)?;
+                place += size;
             }
         }
     }
     Ok(None)
 }
 
-/// What a byte between quotation marks does.
+/// What stands between quotation marks at a place.
 #[derive(Clone, Copy)]
 enum Step {
-    /// It is the closing mark.
+    /// The closing mark.
     Closes,
-    /// It can't stand there.
+    /// What can't stand there.
     Breaks,
-    /// It is the backslash of an escape.
-    Escapes,
-    /// It stands for this byte of the text.
-    Means(u8),
+    /// So many bytes that stand for this byte of the text.
+    Means { byte: u8, size: usize },
 }
 
-fn step_of(follows_backslash: bool, byte: u8) -> Step
-    ensures { result ≡ step_of follows_backslash byte }
+fn step_at(bytes: &[u8]) -> Step
+    ensures step { result ≡ step_at bytes.now }
+    ensures within { IsWithin result (length bytes.now) }
 {
-    match byte {
-        b'"' if !follows_backslash => Step::Closes,
-        b'\n' => Step::Breaks,
-        b'\\' if !follows_backslash => Step::Escapes,
-        b'\\' | b'"' if follows_backslash => Step::Means(byte),
-        b'n' if follows_backslash => Step::Means(b'\n'),
-        _ if follows_backslash => Step::Breaks,
-        _ => Step::Means(byte),
+    match bytes {
+        [b'\\', next, ..] => escape(*next),
+        [b'"', ..] => Step::Closes,
+        [b'\\' | b'\n', ..] | [] => Step::Breaks,
+        [byte, ..] => Step::Means {
+            byte: *byte,
+            size: 1,
+        },
+    }
+}
+
+/// What a backslash and the byte behind it stand for.
+fn escape(next: u8) -> Step
+    ensures step { result ≡ meaning (escaped next) }
+    ensures within { IsWithin result 2 }
+{
+    match next {
+        b'\\' | b'"' => Step::Means {
+            byte: next,
+            size: 2,
+        },
+        b'n' => Step::Means {
+            byte: b'\n',
+            size: 2,
+        },
+        _ => Step::Breaks,
     }
 }

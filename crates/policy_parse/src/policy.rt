@@ -1,14 +1,14 @@
 ghost use Rattle.std.specs.Prelude.{◌≡◌, ◌<◌, ◌^◌, [], IfOk, IfErr, List, length};
-ghost use Rattle.policy_ast.specs.declared.item.Item.{Item};
-ghost use Rattle.policy_ast.specs.grammar.Policies.{Spells, kinds};
-ghost use Rattle.policy_ast.proofs.grammar.ReadingItems.{read_items};
-ghost use Rattle.policy_parse.specs.Seen.{run_seen};
+ghost use Rattle.policy_ast.specs.declared.policy.PlacedItem.{PlacedItem};
+ghost use Rattle.policy_ast.specs.grammar.Policies.{Spells};
+ghost use Rattle.policy_ast.proofs.grammar.ReadingItems.{read_placed, read_run};
+ghost use Rattle.policy_parse.specs.working.Runs.{placed_seen, run_seen};
 ghost use Rattle.policy_parse.specs.Faults.{HasCause, IsTheOne};
 
 use crate::items::item;
 use base_bytes::NoMemory;
-use policy_ast::{Item, Policy, Token};
-use sqlite_items::{Items, at};
+use policy_ast::{PlacedItem, Policy, Token};
+use sqlite_items::Items;
 use std::alloc::Global;
 
 /// Why no policy was read.
@@ -26,34 +26,51 @@ const MAX_HEIGHT: usize = 64;
 /// The one policy that the tokens spell. It is refused as a syntax fault exactly where they spell none.
 pub fn parse(alloc: Global, tokens: &[Token]) -> Result<Policy, SyntaxFault>
     requires { length tokens.now < 2 ^ 32 }
-    ensures policy { IfOk result (λ policy. Spells (kinds tokens.now) policy) }
-    ensures only { (policy : List Item) → Spells (kinds tokens.now) policy → IsTheOne policy result }
+    ensures policy { IfOk result (λ policy. Spells tokens.now policy) }
+    ensures only { (policy : List PlacedItem) → Spells tokens.now policy → IsTheOne policy result }
     ensures cause { IfErr result (HasCause tokens.now) }
 {
     match items(alloc, tokens) {
-        Ok((found, rest)) => match at(tokens, tokens.len() - rest.len()) {
-            Some(first) => Err(SyntaxFault::Syntax {
+        Ok((found, rest)) => match rest {
+            [first, ..] => Err(SyntaxFault::Syntax {
                 item_line: first.line,
             }),
-            None => Ok(Policy::new(found)),
+            [] => Ok(Policy::new(found)),
         },
         Err(NoMemory) => Err(SyntaxFault::NoMemory),
     }
 }
 
 /// Items as long as one can be read, and the tokens that are left.
-fn items(alloc: Global, tokens: &[Token]) -> Result<(Items<Item>, &[Token]), NoMemory>
+fn items(alloc: Global, tokens: &[Token]) -> Result<(Items<PlacedItem>, &[Token]), NoMemory>
     requires { length tokens.now < 2 ^ 32 }
-    ensures { IfOk result (λ p. run_seen p ≡ read_items (length tokens.now) [] (kinds tokens.now)) }
+    ensures { IfOk result (λ p. run_seen p ≡ read_run (length tokens.now) [] tokens.now) }
 {
     let mut found = Items::new(alloc);
     let mut rest = tokens;
     for _ in 0..tokens.len() {
-        let Some((one, behind)) = item(alloc, MAX_HEIGHT, rest)? else {
+        let Some((one, behind)) = placed(alloc, rest)? else {
             return Ok((found, rest));
         };
-        found.push(one.tree)?;
+        found.push(one)?;
         rest = behind;
     }
     Ok((found, rest))
+}
+
+/// The item with which tokens begin, and the tokens behind it.
+fn placed(alloc: Global, tokens: &[Token]) -> Result<Option<(PlacedItem, &[Token])>, NoMemory>
+    requires { length tokens.now < 2 ^ 32 }
+    ensures { IfOk result (λ o. placed_seen o ≡ read_placed tokens.now) }
+{
+    let [first, others @ ..] = tokens else {
+        return Ok(None);
+    };
+    let Some((one, left)) = item(alloc, MAX_HEIGHT, tokens)? else {
+        return Ok(None);
+    };
+    let behind = &others[others.len() - left.len()..];
+    let line = first.line;
+    let item = one.tree;
+    Ok(Some((PlacedItem { line, item }, behind)))
 }

@@ -13,7 +13,7 @@ use Rattle.aranyad.specs.declared.first.script.Line.TheVariants.{Replica, Init, 
 use Rattle.aranyad.specs.declared.first.script.Script.{Script}
 use Rattle.aranyad.specs.declared.first.script.Script.TheVariants.{Lines, Refused}
 use Rattle.aranyad.specs.first.Sound.{Name, item_named}
-use Rattle.policy_ast.specs.TokenForms.{Piece, number_at}
+use Rattle.policy_ast.specs.TokenForms.{SizedToken, number_at}
 
 -- the marks that are pieces of their own
 abbrev pub is_mark : ℕ → Bool
@@ -44,7 +44,7 @@ abbrev pub is_replica : Name → Bool
 is_replica name = list_all is_replica_byte name && not (length name == 0) && nat_le (length name) 16
 
 -- a number of so many bytes, where these are all
-abbrev pub whole_number : ℕ → Option Piece → Option ℤ
+abbrev pub whole_number : ℕ → Option SizedToken → Option ℤ
 whole_number length (Some (Number n, size)) = if size == length then Some n else None
 whole_number length other = None
 

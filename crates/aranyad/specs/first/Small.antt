@@ -1,5 +1,5 @@
 -- Which trees of a policy language's document are small policies, and what they say.
-use Rattle.std.specs.Prelude.{◌-◌, ◌&&◌, if◌then◌else◌, Bool, true, false, List, [], ◌∷◌, length, take, drop, codes, Option, Some, None, option_map}
+use Rattle.std.specs.Prelude.{◌-◌, ◌&&◌, if◌then◌else◌, Bool, true, false, List, [], ◌∷◌, length, take, drop, codes, map, Option, Some, None, option_map}
 use Rattle.std.specs.Option.{option_and_then}
 use Rattle.std.specs.Str.{bytes_eq}
 use Rattle.policy_ast.specs.declared.bind.Bind.{Bind as BindTree}
@@ -22,6 +22,7 @@ use Rattle.policy_ast.specs.declared.item.Section.{Section}
 use Rattle.policy_ast.specs.declared.item.Section.TheVariants as section
 use Rattle.policy_ast.specs.declared.literal.Literal.{Literal}
 use Rattle.policy_ast.specs.declared.literal.Literal.TheVariants as literal
+use Rattle.policy_ast.specs.declared.policy.PlacedItem.{PlacedItem}
 use Rattle.policy_ast.specs.declared.statement.Stmt.{Stmt}
 use Rattle.policy_ast.specs.declared.statement.Stmt.TheVariants as stmt
 use Rattle.aranyad.specs.declared.first.policy.SmallPolicy.{SmallPolicy}
@@ -208,6 +209,10 @@ small_item other = None
 -- items whose names and types fit
 abbrev pub sound_policy : List Item → Option SmallPolicy
 sound_policy items = if is_sound items then Some (record { items = items }) else None
+
+-- the items of a policy without their lines
+abbrev pub trees_of : List PlacedItem → List Tree
+trees_of items = map (λ p. p.item) items
 
 -- the small policy that the trees of a document's items are, and None where they are none
 unfoldable pub small_policy : List Tree → Option SmallPolicy

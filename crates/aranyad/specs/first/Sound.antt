@@ -2,6 +2,7 @@
 use Rattle.std.specs.Prelude.{ℕ, ◌==◌, ◌&&◌, not, nat_le, Bool, true, false, List, [], ◌∷◌, length, map, codes, count_by, Option, Some, None}
 use Rattle.std.specs.List.{list_all, list_any, find}
 use Rattle.std.specs.Str.{bytes_eq}
+use Rattle.policy_ast.specs.declared.version.Version.TheVariants.{Two}
 use Rattle.policy_ast.specs.Words.{is_name}
 use Rattle.aranyad.specs.declared.first.policy.Item.{Item}
 use Rattle.aranyad.specs.declared.first.policy.Item.TheVariants as item
@@ -24,7 +25,7 @@ are_distinct (name ∷ names) = not (is_among name names) && are_distinct names
 
 -- a list of fields or parameters: at most 64 names of the grammar, no two the same
 abbrev pub are_fields : List Name → Bool
-are_fields names = nat_le (length names) 64 && (list_all is_name names && are_distinct names)
+are_fields names = nat_le (length names) 64 && (list_all (is_name Two) names && are_distinct names)
 
 abbrev pub name_of : Item → Name
 name_of (item.Fact f) = f.name
@@ -71,7 +72,7 @@ abbrev pub basic_is_sound : List Item → Basic → Bool
 basic_is_sound items b =
     are_fields b.fields
     && (list_all (λ c. is_among c.field b.fields) b.checks
-    && (is_name b.author
+    && (is_name Two b.author
     && (not (bytes_eq b.author (codes "envelope"))
     && (creates (item_named items b.created.fact) b
     && emission_is_sound items b b.emitted))))
@@ -94,7 +95,7 @@ body_is_sound items (item.Action a) = action_is_sound items a
 
 -- an item beside the others: its name is one of the grammar, but `Envelope`
 abbrev pub item_is_sound : List Item → Item → Bool
-item_is_sound items i = is_name (name_of i) && (not (bytes_eq (name_of i) (codes "Envelope")) && body_is_sound items i)
+item_is_sound items i = is_name Two (name_of i) && (not (bytes_eq (name_of i) (codes "Envelope")) && body_is_sound items i)
 
 abbrev pub is_fact : Item → Bool
 is_fact (item.Fact f) = true

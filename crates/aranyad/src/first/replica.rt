@@ -67,7 +67,7 @@ fn act_line<E: Envelope>(
     )? {
         Acted::Published(command, rows) => {
             let text = published_text(alloc, verb, name, replica.commands.len())?;
-            replica.commands.push(alloc, command)?;
+            replica.commands.push(command)?;
             replica.rows = rows;
             Ok(text)
         }

@@ -1,7 +1,7 @@
 //! Reads the small policy that the trees of a document's items are.
 
 ghost use Rattle.std.specs.Prelude.{◌≡◌, IfOk};
-ghost use Rattle.aranyad.specs.first.Small.{action_of, each_of, effect_field, effect_of, fact_of, small_item, small_policy};
+ghost use Rattle.aranyad.specs.first.Small.{action_of, each_of, effect_field, effect_of, fact_of, small_item, small_policy, trees_of};
 
 use crate::first::policy::{Action, Effect, Fact, Item, SmallPolicy};
 use crate::first::small_commands::command;
@@ -10,16 +10,16 @@ use crate::first::small_parts::{
 };
 use crate::first::sound::is_sound;
 use base_bytes::{NoMemory, Text};
-use policy_ast::{EffectField, Field, Item as Tree, Name, Stmt};
+use policy_ast::{EffectField, Field, Item as Tree, Name, PlacedItem, Stmt};
 use sqlite_items::Items;
 use std::alloc::Global;
 
-/// The small policy, or None exactly where the trees are none.
+/// The small policy, or None exactly where the items' trees are none.
 #[tactic(auto, unfolding(crate::specs::first::Small::small_policy))]
-pub fn small_policy(alloc: Global, trees: &[Tree]) -> Result<Option<SmallPolicy>, NoMemory>
-    ensures { IfOk result (λ found. found ≡ small_policy trees.now) }
+pub fn small_policy(alloc: Global, placed: &[PlacedItem]) -> Result<Option<SmallPolicy>, NoMemory>
+    ensures { IfOk result (λ found. found ≡ small_policy (trees_of placed.now)) }
 {
-    let Some(items) = items(alloc, trees)? else {
+    let Some(items) = items(alloc, placed)? else {
         return Ok(None);
     };
     if is_sound(alloc, items.as_slice())? {
@@ -29,12 +29,12 @@ pub fn small_policy(alloc: Global, trees: &[Tree]) -> Result<Option<SmallPolicy>
     }
 }
 
-fn items(alloc: Global, trees: &[Tree]) -> Result<Option<Items<Item>>, NoMemory>
-    ensures { IfOk result (λ found. found ≡ each_of small_item trees.now) }
+fn items(alloc: Global, placed: &[PlacedItem]) -> Result<Option<Items<Item>>, NoMemory>
+    ensures { IfOk result (λ found. found ≡ each_of small_item (trees_of placed.now)) }
 {
     let mut items = Items::new(alloc);
-    for tree in trees {
-        let Some(item) = item(alloc, tree)? else {
+    for one in placed {
+        let Some(item) = item(alloc, &one.item)? else {
             return Ok(None);
         };
         items.push(item)?;

@@ -4,6 +4,7 @@ ghost use Rattle.std.specs.Prelude.{◌≡◌, ◌&&◌, map, IfOk};
 ghost use Rattle.std.specs.List.{count_by, list_all, list_any};
 ghost use Rattle.std.specs.Str.{bytes_eq};
 ghost use Rattle.std.specs.Option.{option_copied};
+ghost use Rattle.policy_ast.specs.declared.version.Version.TheVariants.{Two};
 ghost use Rattle.policy_ast.specs.Words.{is_name};
 ghost use Rattle.aranyad.specs.first.Shapes.{is_shaped, is_short};
 ghost use Rattle.aranyad.specs.first.Sound.{action_is_sound, are_distinct, are_fields, basic_is_sound, binds_fit, body_is_sound, creates, emission_is_sound, emits, fact_is_sound, is_among, is_fact, is_sound, is_start, item_is_sound, item_named, name_of, publishes};
@@ -241,7 +242,7 @@ fn are_fields(names: &[Text]) -> bool
 }
 
 fn are_names(names: &[Text]) -> bool
-    ensures { result ≡ list_all is_name names.now }
+    ensures { result ≡ list_all (is_name Two) names.now }
 {
     names.iter().all(|name| is_name(name.as_slice()))
 }

@@ -5,7 +5,7 @@ use Rattle.outside.specs.declared.replaced.Replaced.{Replaced}
 
 -- the bytes before a write, of those after it
 abbrev pub undone : Replaced → List ℕ → List ℕ
-undone write bytes = take write.at bytes ++ write.under ++ drop (write.at + write.written) bytes
+undone write bytes = take write.at bytes ++ write.under ++ drop (write.at + write.written_length) bytes
 
 -- the moment after the writes since a sync, of which the latest stands first and left these bytes
 abbrev pub moment_after : List Replaced → List ℕ → Moment

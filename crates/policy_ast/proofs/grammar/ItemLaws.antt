@@ -11,51 +11,51 @@ use Rattle.policy_ast.specs.grammar.Forms as forms
 use Rattle.policy_ast.specs.grammar.Forms.{◌▸◌, ◌⊗◌, Empty, Listed, Made, Many, Node}
 use Rattle.policy_ast.specs.grammar.Items as rows
 use Rattle.policy_ast.specs.grammar.Items.{IsAttribute, IsFact, IsItemTree, IsParameters, IsSection}
-use Rattle.policy_ast.specs.grammar.Parts.{Between, Tokens}
+use Rattle.policy_ast.specs.grammar.Parts.{Nonterminal, Kinds}
 use Rattle.policy_ast.specs.grammar.Policies as policies
 use Rattle.policy_ast.specs.grammar.Policies.{IsItem, max_height}
 use Rattle.policy_ast.specs.grammar.Statements.{IsBlock, IsFinishBlock, IsStmt}
-use Rattle.policy_ast.proofs.grammar.Facts.{AreParts, AreShort, are_short, behind_parts, behind_short, empty_short, forward, listed_short, made_parts, many_short, node_short, pair_parts, pair_short, unclosed}
-use Rattle.policy_ast.proofs.grammar.FieldLaws.{effect_field_is_read, effect_field_parts, field_is_read, field_parts, literal_is_read, literal_parts, name_is_read, name_parts, type_is_read, type_short}
+use Rattle.policy_ast.proofs.grammar.Facts.{AreParts, IsPart, LeavesTail, parts_tail, behind_parts, behind_tail, empty_tail, forward, listed_tail, made_parts, many_tail, node_tail, pair_parts, pair_tail, unclosed}
+use Rattle.policy_ast.proofs.grammar.FieldLaws.{effect_field_is_read, effect_field_parts, field_is_read, field_parts, literal_is_read, literal_parts, name_is_read, name_parts, type_is_read, type_tail}
 use Rattle.policy_ast.proofs.grammar.Laws.{Always, Finds, IsRead, behind_is_read, bind_then, empty_is_read, made_is_read, node_is_read, nothing_finds, on_finds, pair_is_read, same_some}
 use Rattle.policy_ast.proofs.grammar.Loops.{listed_is_read, many_is_read}
 use Rattle.policy_ast.proofs.grammar.Reading.{listed, many, noded}
 use Rattle.policy_ast.proofs.grammar.ReadingFields.{read_effect_field, read_field, read_name}
 use Rattle.policy_ast.proofs.grammar.ReadingItems.{read_action, read_attribute, read_command, read_effect, read_enum, read_fact, read_finish_function, read_function, read_item, read_item_tree, read_let_item, read_opening, read_parameters, read_sealing, read_section, read_struct}
-use Rattle.policy_ast.proofs.grammar.StatementFacts.{block_short, finish_block_short, is_stmt_parts}
+use Rattle.policy_ast.proofs.grammar.StatementFacts.{block_tail, finish_block_tail, is_stmt_parts}
 use Rattle.policy_ast.proofs.grammar.StatementLaws.{block_is_read, finish_block_is_read}
 
 -- sections
 attribute_parts : AreParts IsAttribute
-attribute_parts = made_parts (pair_parts name_parts (behind_short (are_short literal_parts) colon)) _
+attribute_parts = made_parts (pair_parts name_parts (behind_tail (parts_tail literal_parts) colon)) _
 
-is_block_short : AreShort IsBlock
-is_block_short = block_short IsStmt is_stmt_parts
+is_block_tail : LeavesTail IsBlock
+is_block_tail = block_tail IsStmt is_stmt_parts
 
-fields_short : AreShort (open_brace ▸ Listed IsField close_brace)
-fields_short = behind_short (listed_short (are_short field_parts) close_brace) open_brace
+fields_tail : LeavesTail (open_brace ▸ Listed IsField close_brace)
+fields_tail = behind_tail (listed_tail (parts_tail field_parts) close_brace) open_brace
 
-abbrev Sealing : Between Unit
+abbrev Sealing : Nonterminal Unit
 Sealing = open_brace ▸ word "return" ▸ word "envelope" ▸ path ▸ word "do_seal" ▸ open_paren ▸ word "serialize" ▸ open_paren ▸ word "this" ▸ close_paren ▸ close_paren ▸ close_brace ▸ Empty
 
-abbrev Opening : Between Unit
+abbrev Opening : Nonterminal Unit
 Opening = open_brace ▸ word "return" ▸ word "deserialize" ▸ open_paren ▸ word "envelope" ▸ path ▸ word "do_open" ▸ open_paren ▸ word "envelope" ▸ close_paren ▸ close_paren ▸ close_brace ▸ Empty
 
-sealing_short : AreShort Sealing
-sealing_short = behind_short (behind_short (behind_short (behind_short (behind_short (behind_short (behind_short (behind_short (behind_short (behind_short (behind_short (behind_short empty_short
+sealing_tail : LeavesTail Sealing
+sealing_tail = behind_tail (behind_tail (behind_tail (behind_tail (behind_tail (behind_tail (behind_tail (behind_tail (behind_tail (behind_tail (behind_tail (behind_tail empty_tail
     close_brace) close_paren) close_paren) (word "this")) open_paren) (word "serialize")) open_paren) (word "do_seal")) path) (word "envelope")) (word "return")) open_brace
 
-opening_short : AreShort Opening
-opening_short = behind_short (behind_short (behind_short (behind_short (behind_short (behind_short (behind_short (behind_short (behind_short (behind_short (behind_short (behind_short empty_short
+opening_tail : LeavesTail Opening
+opening_tail = behind_tail (behind_tail (behind_tail (behind_tail (behind_tail (behind_tail (behind_tail (behind_tail (behind_tail (behind_tail (behind_tail (behind_tail empty_tail
     close_brace) close_paren) close_paren) (word "envelope")) open_paren) (word "do_open")) path) (word "envelope")) open_paren) (word "deserialize")) (word "return")) open_brace
 
 section_parts : AreParts IsSection
-section_parts ts rest a (rows.attributes x) = behind_parts (node_short (behind_short (listed_short (are_short attribute_parts) close_brace) open_brace) _) (word "attributes") refl ts rest a x
-section_parts ts rest a (rows.fields x) = behind_parts (node_short fields_short _) (word "fields") refl ts rest a x
-section_parts ts rest a (rows.seal x) = behind_parts (node_short sealing_short _) (word "seal") refl ts rest a x
-section_parts ts rest a (rows.open x) = behind_parts (node_short opening_short _) (word "open") refl ts rest a x
-section_parts ts rest a (rows.policy x) = behind_parts (node_short is_block_short _) (word "policy") refl ts rest a x
-section_parts ts rest a (rows.recall x) = behind_parts (node_short is_block_short _) (word "recall") refl ts rest a x
+section_parts ts rest a (rows.attributes x) = behind_parts (node_tail (behind_tail (listed_tail (parts_tail attribute_parts) close_brace) open_brace) _) (word "attributes") refl ts rest a x
+section_parts ts rest a (rows.fields x) = behind_parts (node_tail fields_tail _) (word "fields") refl ts rest a x
+section_parts ts rest a (rows.seal x) = behind_parts (node_tail sealing_tail _) (word "seal") refl ts rest a x
+section_parts ts rest a (rows.open x) = behind_parts (node_tail opening_tail _) (word "open") refl ts rest a x
+section_parts ts rest a (rows.policy x) = behind_parts (node_tail is_block_tail _) (word "policy") refl ts rest a x
+section_parts ts rest a (rows.recall x) = behind_parts (node_tail is_block_tail _) (word "recall") refl ts rest a x
 
 sealing_is_read : {limit : ℕ} → IsRead Sealing Sealing read_sealing limit Always
 sealing_is_read = behind_is_read (behind_is_read (behind_is_read (behind_is_read (behind_is_read (behind_is_read (behind_is_read (behind_is_read (behind_is_read (behind_is_read (behind_is_read (behind_is_read empty_is_read
@@ -86,7 +86,7 @@ module _ (limit : ℕ) where
   names_are_read : IsRead (Listed IsName close_brace) (Listed IsName close_brace) (listed close_brace read_name) limit Always
   names_are_read = listed_is_read close_brace name_is_read (forward name_parts) (unclosed name_parts close_brace refl) (λ rest. tt) (λ rest. tt) (λ rest. refl)
 
-  section_reads : (ts rest : Tokens) (a : Part Section) → IsSection ts rest a → a.height ≤ limit → read_section limit ts ≡ Some (a, rest)
+  section_reads : (ts rest : Kinds) (a : Part Section) → IsSection ts rest a → a.height ≤ limit → read_section limit ts ≡ Some (a, rest)
   unfolding read_section
   section_reads ts rest a (rows.attributes (forms.behind {ts = inner} x)) low = (node_is_read (behind_is_read attributes_are_read open_brace) section.Attributes).reads inner rest a x low tt
   section_reads ts rest a (rows.fields (forms.behind {ts = inner} x)) low = (node_is_read (behind_is_read braced_fields_are_read open_brace) section.Fields).reads inner rest a x low tt
@@ -128,7 +128,7 @@ module _ (limit : ℕ) where
   effect_is_read : IsRead (Node (λ t. item.Effect t.0 t.1) (IsName ⊗ open_brace ▸ Listed IsEffectField close_brace)) (Node (λ t. item.Effect t.0 t.1) (IsName ⊗ open_brace ▸ Listed IsEffectField close_brace)) (read_effect limit) limit Always
   effect_is_read = node_is_read (pair_is_read name_is_read (behind_is_read effect_fields_are_read open_brace) (λ ts rest b y. tt)) (λ t. item.Effect t.0 t.1)
 
-  abbrev FactRow : Bool → Between Item
+  abbrev FactRow : Bool → Nonterminal Item
   FactRow is_immutable = Node (λ t. item.Fact is_immutable t.0 t.1.0 t.1.1) (IsName ⊗ open_bracket ▸ Listed IsField close_bracket ⊗ arrow ▸ open_brace ▸ Listed IsField close_brace)
 
   fact_is_read : (is_immutable : Bool) → IsRead (FactRow is_immutable) (FactRow is_immutable) (read_fact limit is_immutable) limit Always
@@ -149,7 +149,7 @@ module _ (limit : ℕ) where
   action_is_read = node_is_read (pair_is_read name_is_read (pair_is_read parameters_are_read (block_is_read limit) (λ ts rest b y. tt)) (λ ts rest b y. tt)) (λ t. item.Action t.0 t.1.0 t.1.1)
 
   -- whatever follows an item: no item begins another one
-  item_tree_reads : (ts rest : Tokens) (a : Part Item) → IsItemTree ts rest a → a.height ≤ limit → read_item_tree limit ts ≡ Some (a, rest)
+  item_tree_reads : (ts rest : Kinds) (a : Part Item) → IsItemTree ts rest a → a.height ≤ limit → read_item_tree limit ts ≡ Some (a, rest)
   unfolding read_item_tree
   item_tree_reads ts rest a (rows.use (forms.behind {ts = inner} x)) low = use_is_read.reads inner rest a x low tt
   item_tree_reads ts rest a (rows.let (forms.behind {ts = inner} x)) low = let_item_is_read.reads inner rest a x low tt
@@ -179,33 +179,33 @@ module _ (limit : ℕ) where
       (on_finds (word "action") action_is_read.finds (λ ts rest a x. rows.action x)
       nothing_finds))))))))))
 
-parameters_short : AreShort IsParameters
-parameters_short = behind_short (listed_short (are_short field_parts) close_paren) open_paren
+parameters_tail : LeavesTail IsParameters
+parameters_tail = behind_tail (listed_tail (parts_tail field_parts) close_paren) open_paren
 
-fact_row_short : (is_immutable : Bool) → AreShort (FactRow 0 is_immutable)
-fact_row_short is_immutable = node_short (pair_short (are_short name_parts) (behind_short (pair_short (listed_short (are_short field_parts) close_bracket) (behind_short fields_short arrow)) open_bracket)) _
+fact_row_tail : (is_immutable : Bool) → LeavesTail (FactRow 0 is_immutable)
+fact_row_tail is_immutable = node_tail (pair_tail (parts_tail name_parts) (behind_tail (pair_tail (listed_tail (parts_tail field_parts) close_bracket) (behind_tail fields_tail arrow)) open_bracket)) _
 
 item_tree_parts : AreParts IsItemTree
-item_tree_parts ts rest a (rows.use x) = behind_parts (node_short (are_short name_parts) _) (word "use") refl ts rest a x
-item_tree_parts ts rest a (rows.let x) = behind_parts (node_short (pair_short (are_short name_parts) (behind_short (are_short literal_parts) equals)) _) (word "let") refl ts rest a x
-item_tree_parts ts rest a (rows.enum x) = behind_parts (node_short (pair_short (are_short name_parts) (behind_short (listed_short (are_short name_parts) close_brace) open_brace)) _) (word "enum") refl ts rest a x
-item_tree_parts ts rest a (rows.struct x) = behind_parts (node_short (pair_short (are_short name_parts) fields_short) _) (word "struct") refl ts rest a x
-item_tree_parts ts rest a (rows.effect x) = behind_parts (node_short (pair_short (are_short name_parts) (behind_short (listed_short (are_short effect_field_parts) close_brace) open_brace)) _) (word "effect") refl ts rest a x
-item_tree_parts ts rest a (rows.fact x) = behind_parts (fact_row_short false) (word "fact") refl ts rest a x
-item_tree_parts ts rest a (rows.immutable_fact x) = behind_parts (behind_short (fact_row_short true) (word "fact")) (word "immutable") refl ts rest a x
-item_tree_parts ts rest a (rows.command x) = behind_parts (node_short (pair_short (are_short name_parts) (behind_short (many_short (are_short section_parts) close_brace) open_brace)) _) (word "command") refl ts rest a x
-item_tree_parts ts rest a (rows.function x) = behind_parts (node_short (pair_short (are_short name_parts) (pair_short parameters_short (pair_short type_short is_block_short))) _) (word "function") refl ts rest a x
-item_tree_parts ts rest a (rows.finish_function x) = behind_parts (behind_short (node_short (pair_short (are_short name_parts) (pair_short parameters_short finish_block_short)) _) (word "function")) (word "finish") refl ts rest a x
-item_tree_parts ts rest a (rows.action x) = behind_parts (node_short (pair_short (are_short name_parts) (pair_short parameters_short is_block_short)) _) (word "action") refl ts rest a x
+item_tree_parts ts rest a (rows.use x) = behind_parts (node_tail (parts_tail name_parts) _) (word "use") refl ts rest a x
+item_tree_parts ts rest a (rows.let x) = behind_parts (node_tail (pair_tail (parts_tail name_parts) (behind_tail (parts_tail literal_parts) equals)) _) (word "let") refl ts rest a x
+item_tree_parts ts rest a (rows.enum x) = behind_parts (node_tail (pair_tail (parts_tail name_parts) (behind_tail (listed_tail (parts_tail name_parts) close_brace) open_brace)) _) (word "enum") refl ts rest a x
+item_tree_parts ts rest a (rows.struct x) = behind_parts (node_tail (pair_tail (parts_tail name_parts) fields_tail) _) (word "struct") refl ts rest a x
+item_tree_parts ts rest a (rows.effect x) = behind_parts (node_tail (pair_tail (parts_tail name_parts) (behind_tail (listed_tail (parts_tail effect_field_parts) close_brace) open_brace)) _) (word "effect") refl ts rest a x
+item_tree_parts ts rest a (rows.fact x) = behind_parts (fact_row_tail false) (word "fact") refl ts rest a x
+item_tree_parts ts rest a (rows.immutable_fact x) = behind_parts (behind_tail (fact_row_tail true) (word "fact")) (word "immutable") refl ts rest a x
+item_tree_parts ts rest a (rows.command x) = behind_parts (node_tail (pair_tail (parts_tail name_parts) (behind_tail (many_tail (parts_tail section_parts) close_brace) open_brace)) _) (word "command") refl ts rest a x
+item_tree_parts ts rest a (rows.function x) = behind_parts (node_tail (pair_tail (parts_tail name_parts) (pair_tail parameters_tail (pair_tail type_tail is_block_tail))) _) (word "function") refl ts rest a x
+item_tree_parts ts rest a (rows.finish_function x) = behind_parts (behind_tail (node_tail (pair_tail (parts_tail name_parts) (pair_tail parameters_tail finish_block_tail)) _) (word "function")) (word "finish") refl ts rest a x
+item_tree_parts ts rest a (rows.action x) = behind_parts (node_tail (pair_tail (parts_tail name_parts) (pair_tail parameters_tail is_block_tail)) _) (word "action") refl ts rest a x
 
 -- an item
-pub item_shorter : (ts rest : Tokens) (x : Item) → IsItem ts rest x → length rest < length ts
-item_shorter ts rest x (policies.low height is low) = (item_tree_parts ts rest (record { tree = x; height = height }) is).shorter
+pub item_part : (ts rest : Kinds) (x : Item) → IsItem ts rest x → IsPart ts rest
+item_part ts rest x (policies.low height is low) = item_tree_parts ts rest (record { tree = x; height = height }) is
 
-pub item_reads : (ts rest : Tokens) (x : Item) → IsItem ts rest x → read_item ts ≡ Some (x, rest)
+pub item_reads : (ts rest : Kinds) (x : Item) → IsItem ts rest x → read_item ts ≡ Some (x, rest)
 item_reads ts rest x (policies.low height is low) = rw (item_tree_reads max_height ts rest (record { tree = x; height = height }) is low) refl
 
-pub item_found : (ts : Tokens) (p : Item × Tokens) → read_item ts ≡ Some p → IsItem ts p.1 p.0
+pub item_found : (ts : Kinds) (p : Item × Kinds) → read_item ts ≡ Some p → IsItem ts p.1 p.0
 item_found ts p is = bind_then (read_item_tree max_height ts) (λ a. Some (a.0.tree, a.1)) p is (λ a reads e.
     let found = item_tree_finds max_height ts a reads in
     subst (λ q. IsItem ts q.1 q.0) (same_some (a.0.tree, a.1) p e) (policies.low a.0.height found.spelled found.low))

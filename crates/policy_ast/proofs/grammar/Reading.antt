@@ -7,11 +7,11 @@ use Rattle.policy_ast.specs.declared.part.Part.{Part}
 use Rattle.policy_ast.specs.declared.token.TokenKind.{TokenKind}
 use Rattle.policy_ast.specs.declared.token.TokenKind.TheVariants as token
 use Rattle.policy_ast.specs.grammar.Fixed.{comma}
-use Rattle.policy_ast.specs.grammar.Parts.{Tokens, joined, longer, made, nothing_yet, part}
+use Rattle.policy_ast.specs.grammar.Parts.{Kinds, made_both, appended, made, nothing_yet, part}
 
 -- what the tokens begin with, and the tokens behind it
 abbrev pub Reader : Type 0 → Type 0
-Reader A = Tokens → Option (Part A × Tokens)
+Reader A = Kinds → Option (Part A × Kinds)
 
 abbrev pub is_token : TokenKind → TokenKind → Bool
 is_token (token.Word a) (token.Word b) = bytes_eq a b
@@ -21,7 +21,7 @@ is_token (token.Symbol a) (token.Symbol b) = a == b
 is_token _ _ = false
 
 -- the tokens behind this one, where it is the first
-abbrev pub after : TokenKind → Tokens → Option Tokens
+abbrev pub after : TokenKind → Kinds → Option Kinds
 after t [] = None
 after t (u ∷ ts) = if is_token t u then Some ts else None
 
@@ -48,7 +48,7 @@ before t read ts = option_and_then (λ a. option_and_then (λ rest. Some (a.0, r
 
 -- what is read behind a part, and the two
 abbrev pub paired : {A B : Type 0} → Part A → Reader B → Reader (A × B)
-paired a second ts = option_and_then (λ b. Some (joined (λ a b. (a, b)) a b.0, b.1)) (second ts)
+paired a second ts = option_and_then (λ b. Some (made_both (λ a b. (a, b)) a b.0, b.1)) (second ts)
 
 abbrev pub pair : {A B : Type 0} → Reader A → Reader B → Reader (A × B)
 pair first second ts = option_and_then (λ a. paired a.0 second a.1) (first ts)
@@ -70,7 +70,7 @@ optional t read ts = chosen (after t ts) (Some (part None 0, ts)) (making Some r
 unfoldable pub many_more : {A : Type 0} → TokenKind → Reader A → ℕ → Part (List A) → Reader (List A)
 many_more close one zero found ts = None
 many_more close one (suc k) found ts = chosen (after close ts)
-    (option_and_then (λ a. many_more close one k (longer found a.0) a.1) (one ts))
+    (option_and_then (λ a. many_more close one k (appended found a.0) a.1) (one ts))
     (λ rest. Some (found, rest))
 
 abbrev pub many : {A : Type 0} → TokenKind → Reader A → Reader (List A)
@@ -81,8 +81,8 @@ unfoldable pub listed_more : {A : Type 0} → TokenKind → Reader A → ℕ →
 listed_more close one zero found ts = None
 listed_more close one (suc k) found ts = chosen (after close ts)
     (option_and_then (λ a. chosen (after close a.1)
-    (option_and_then (λ mid. listed_more close one k (longer found a.0) mid) (after comma a.1))
-    (λ rest. Some (longer found a.0, rest))) (one ts))
+    (option_and_then (λ mid. listed_more close one k (appended found a.0) mid) (after comma a.1))
+    (λ rest. Some (appended found a.0, rest))) (one ts))
     (λ rest. Some (found, rest))
 
 abbrev pub listed : {A : Type 0} → TokenKind → Reader A → Reader (List A)
@@ -102,10 +102,10 @@ abbrev pub node_added : {A B : Type 0} → ℕ → (B → A → B) → Part B �
 node_added limit make b a ts = built limit (make b.tree a.tree) (max b.height a.height) ts
 
 abbrev pub list_added : {A : Type 0} → Part (List A) → Part A → Reader (List A)
-list_added b a ts = Some (longer b a, ts)
+list_added b a ts = Some (appended b a, ts)
 
 -- one of several operators, each written as a token
-abbrev pub operator : {A : Type 0} → (A → TokenKind) → List A → Tokens → Option (A × Tokens)
+abbrev pub operator : {A : Type 0} → (A → TokenKind) → List A → Kinds → Option (A × Kinds)
 operator written [] ts = None
 operator written (op ∷ ops) ts = chosen (after (written op) ts) (operator written ops ts) (λ rest. Some (op, rest))
 

@@ -1,8 +1,8 @@
 -- How expressions are read.
 use Rattle.std.specs.Prelude.{ℕ, zero, suc, Bool, true, false, List, [], ◌∷◌, Option, Some, None, option_and_then}
 use Rattle.policy_ast.specs.declared.bind.Bind.{Bind}
-use Rattle.policy_ast.specs.declared.bind.Free.{Free}
-use Rattle.policy_ast.specs.declared.bind.Pattern.{Pattern}
+use Rattle.policy_ast.specs.declared.pattern.Free.{Free}
+use Rattle.policy_ast.specs.declared.pattern.Pattern.{Pattern}
 use Rattle.policy_ast.specs.declared.expr.Arithmetic.{Arithmetic}
 use Rattle.policy_ast.specs.declared.expr.Arithmetic.TheVariants as arithmetic
 use Rattle.policy_ast.specs.declared.expr.Comparison.{Comparison}
@@ -21,9 +21,9 @@ use Rattle.policy_ast.specs.declared.expr.Unary.{Unary}
 use Rattle.policy_ast.specs.declared.expr.Unary.TheVariants as unary
 use Rattle.policy_ast.specs.declared.literal.Literal.TheVariants as literal
 use Rattle.policy_ast.specs.declared.part.Part.{Part}
-use Rattle.policy_ast.specs.grammar.Expressions.{Place, conditional, operand, whole}
+use Rattle.policy_ast.specs.grammar.Expressions.{Level, conditional, operand, whole}
 use Rattle.policy_ast.specs.grammar.Fixed.{and, arithmetic_token, arrow, close_brace, close_bracket, close_paren, colon, comma, comparison_token, count_token, dot, equals, open_brace, open_bracket, open_paren, or, path, presence_token, question_mark, sign_token, word}
-use Rattle.policy_ast.specs.grammar.Parts.{joined}
+use Rattle.policy_ast.specs.grammar.Parts.{made_both}
 use Rattle.policy_ast.proofs.grammar.Reading.{Reader, before, behind, built, chained, listed, making, many, node_added, noded, nothing, on, operated, optional, pair, paired, read_empty}
 use Rattle.policy_ast.proofs.grammar.ReadingFields.{named, read_constant, read_name, read_number}
 
@@ -43,7 +43,7 @@ abbrev pub counts : List Count
 counts = count.AtLeast ∷ count.AtMost ∷ count.Exactly ∷ count.CountUpTo ∷ []
 
 -- over the reading of what lies inside, of parts that are at most so high
-module _ (below : Place → Reader Expr) (limit : ℕ) where
+module _ (below : Level → Reader Expr) (limit : ℕ) where
   abbrev pub bind_over : Reader (Bind Expr)
   bind_over = making (λ t. record { name = t.0; value = t.1 }) (pair read_name (behind colon (below (whole false))))
 
@@ -75,7 +75,7 @@ module _ (below : Place → Reader Expr) (limit : ℕ) where
   -- what begins with two names
   abbrev pub two_names_over : Part (List ℕ) → Part (List ℕ) → Reader Expr
   two_names_over a b = on open_paren (noded (suc limit) (λ t. expr.ForeignCall t.0 t.1.0 t.1.1) (paired a (paired b (listed close_paren (below (whole false))))))
-      (noded (suc limit) expr.Literal (making {A = List ℕ × List ℕ} (λ t. literal.Variant t.0 t.1) (λ ts. Some (joined (λ a b. (a, b)) a b, ts))))
+      (noded (suc limit) expr.Literal (making {A = List ℕ × List ℕ} (λ t. literal.Variant t.0 t.1) (λ ts. Some (made_both (λ a b. (a, b)) a b, ts))))
 
   -- what begins with a name. A head has no brace behind it.
   abbrev pub braced_over : Bool → Part (List ℕ) → Reader Expr
@@ -130,12 +130,12 @@ module _ (below : Place → Reader Expr) (limit : ℕ) where
   abbrev pub or_over : Bool → Reader Expr
   or_over is_head = chained or (node_added (suc limit) expr.Or) (and_over is_head) (and_over is_head)
 
-  abbrev pub expr_over : Place → Reader Expr
+  abbrev pub expr_over : Level → Reader Expr
   expr_over (whole is_head) = or_over is_head
   expr_over (operand is_head) = unary_over is_head
   expr_over conditional = behind (word "if") conditional_over
 
 -- an expression of at most this height
-unfoldable pub read_expr : ℕ → Place → Reader Expr
-read_expr zero place ts = None
-read_expr (suc limit) place ts = expr_over (read_expr limit) limit place ts
+unfoldable pub read_expr : ℕ → Level → Reader Expr
+read_expr zero level ts = None
+read_expr (suc limit) level ts = expr_over (read_expr limit) limit level ts

@@ -6,17 +6,18 @@ use Rattle.policy_ast.specs.declared.field.FieldType.{FieldType}
 use Rattle.policy_ast.specs.declared.field.FieldType.TheVariants as field_type
 use Rattle.policy_ast.specs.declared.literal.Literal.{Literal}
 use Rattle.policy_ast.specs.declared.literal.Literal.TheVariants as literal
-use Rattle.policy_ast.specs.declared.literal.PatternLiteral.{PatternLiteral}
-use Rattle.policy_ast.specs.declared.literal.PatternLiteral.TheVariants as pattern_literal
+use Rattle.policy_ast.specs.declared.pattern.PatternLiteral.{PatternLiteral}
+use Rattle.policy_ast.specs.declared.pattern.PatternLiteral.TheVariants as pattern_literal
 use Rattle.policy_ast.specs.declared.part.Part.{Part}
 use Rattle.policy_ast.specs.declared.token.TokenKind.TheVariants as token
 use Rattle.policy_ast.specs.grammar.Fixed.{path, word}
 use Rattle.policy_ast.specs.grammar.Parts.{part}
+use Rattle.policy_ast.specs.Version.{Two}
 use Rattle.policy_ast.specs.Words.{is_name}
 use Rattle.policy_ast.proofs.grammar.Reading.{Reader, behind, chosen, making, noded, nothing, on, optional, pair, paired, read_empty}
 
 abbrev pub read_name : Reader (List ℕ)
-read_name (token.Word text ∷ ts) = if is_name text then Some (part text 0, ts) else None
+read_name (token.Word text ∷ ts) = if is_name Two text then Some (part text 0, ts) else None
 read_name _ = None
 
 abbrev pub read_number : Reader ℤ

@@ -1,14 +1,16 @@
 -- How items and policies are read.
-use Rattle.std.specs.Prelude.{ℕ, zero, suc, Bool, true, false, List, [], ◌∷◌, ◌++◌, Option, Some, option_and_then}
+use Rattle.std.specs.Prelude.{ℕ, zero, suc, ◌-◌, Bool, true, false, List, [], ◌∷◌, ◌++◌, drop, length, Option, None, Some, option_and_then}
 use Rattle.policy_ast.specs.declared.field.Field.{Field}
 use Rattle.policy_ast.specs.declared.item.Attribute.{Attribute}
 use Rattle.policy_ast.specs.declared.item.Item.{Item}
 use Rattle.policy_ast.specs.declared.item.Item.TheVariants as item
 use Rattle.policy_ast.specs.declared.item.Section.{Section}
 use Rattle.policy_ast.specs.declared.item.Section.TheVariants as section
+use Rattle.policy_ast.specs.declared.policy.PlacedItem.{PlacedItem}
+use Rattle.policy_ast.specs.declared.token.Token.{Token}
 use Rattle.policy_ast.specs.grammar.Fixed.{arrow, close_brace, close_bracket, close_paren, colon, equals, open_brace, open_bracket, open_paren, path, word}
-use Rattle.policy_ast.specs.grammar.Parts.{Tokens}
-use Rattle.policy_ast.specs.grammar.Policies.{max_height}
+use Rattle.policy_ast.specs.grammar.Parts.{Kinds}
+use Rattle.policy_ast.specs.grammar.Policies.{kinds, max_height, placed}
 use Rattle.policy_ast.proofs.grammar.Reading.{Reader, behind, chosen, listed, making, many, noded, nothing, on, pair, read_empty}
 use Rattle.policy_ast.proofs.grammar.ReadingFields.{read_effect_field, read_field, read_literal, read_name, read_type}
 use Rattle.policy_ast.proofs.grammar.ReadingStatements.{read_block, read_finish_block}
@@ -84,10 +86,15 @@ module _ (limit : ℕ) where
       (on (word "action") read_action
       nothing))))))))))
 
-abbrev pub read_item : Tokens → Option (Item × Tokens)
+abbrev pub read_item : Kinds → Option (Item × Kinds)
 read_item ts = option_and_then (λ a. Some (a.0.tree, a.1)) (read_item_tree max_height ts)
 
+-- the item that tokens begin with, at its line, and the tokens behind it, which are known by how many they are
+abbrev pub read_placed : List Token → Option (PlacedItem × List Token)
+read_placed [] = None
+read_placed (t ∷ ts) = option_and_then (λ a. Some (placed t a.0, drop (length ts - length a.1) ts)) (read_item (kinds (t ∷ ts)))
+
 -- items as long as one can be read, behind those found so far, at most so many more; and the tokens left
-unfoldable pub read_items : ℕ → List Item → Tokens → List Item × Tokens
-read_items zero found ts = (found, ts)
-read_items (suc k) found ts = chosen (read_item ts) (found, ts) (λ a. read_items k (found ++ a.0 ∷ []) a.1)
+unfoldable pub read_run : ℕ → List PlacedItem → List Token → List PlacedItem × List Token
+read_run zero found ts = (found, ts)
+read_run (suc k) found ts = chosen (read_placed ts) (found, ts) (λ a. read_run k (found ++ a.0 ∷ []) a.1)

@@ -3,10 +3,10 @@ use Rattle.std.specs.Prelude.{ℕ, zero, suc, true, false, List, [], ◌∷◌, 
 use Rattle.policy_ast.specs.declared.expr.Expr.{Expr}
 use Rattle.policy_ast.specs.declared.finish.FinishStmt.{FinishStmt}
 use Rattle.policy_ast.specs.declared.finish.FinishStmt.TheVariants as finish_stmt
-use Rattle.policy_ast.specs.declared.literal.PatternLiteral.{PatternLiteral}
+use Rattle.policy_ast.specs.declared.pattern.PatternLiteral.{PatternLiteral}
 use Rattle.policy_ast.specs.declared.statement.Arm.{Arm}
-use Rattle.policy_ast.specs.declared.statement.ArmPattern.{ArmPattern}
-use Rattle.policy_ast.specs.declared.statement.ArmPattern.TheVariants as arm_pattern
+use Rattle.policy_ast.specs.declared.pattern.ArmPattern.{ArmPattern}
+use Rattle.policy_ast.specs.declared.pattern.ArmPattern.TheVariants as arm_pattern
 use Rattle.policy_ast.specs.declared.statement.Else.{Else}
 use Rattle.policy_ast.specs.declared.statement.Else.TheVariants as otherwise
 use Rattle.policy_ast.specs.declared.statement.Stmt.{Stmt}

@@ -1,8 +1,6 @@
 -- Expressions, with the patterns and the blocks that stand in them.
-use Rattle.std.specs.Prelude.{◌≡◌, ℕ, zero, suc, Bool, true, false, Option, Some, None}
+use Rattle.std.specs.Prelude.{◌≡◌, ℕ, zero, suc, Bool, true, false}
 use Rattle.policy_ast.specs.declared.bind.Bind.{Bind}
-use Rattle.policy_ast.specs.declared.bind.Free.{Free}
-use Rattle.policy_ast.specs.declared.bind.Pattern.{Pattern}
 use Rattle.policy_ast.specs.declared.expr.Arithmetic.{Arithmetic}
 use Rattle.policy_ast.specs.declared.expr.Comparison.{Comparison}
 use Rattle.policy_ast.specs.declared.expr.Count.{Count}
@@ -16,53 +14,40 @@ use Rattle.policy_ast.specs.declared.expr.Presence.{Presence}
 use Rattle.policy_ast.specs.declared.expr.Unary.{Unary}
 use Rattle.policy_ast.specs.declared.part.Part.{Part}
 use Rattle.policy_ast.specs.grammar.Fields.{IsLiteral, IsName, IsNumber}
-use Rattle.policy_ast.specs.grammar.Fixed.{and, arithmetic_token, arrow, close_brace, close_bracket, close_paren, colon, comma, comparison_token, count_token, dot, equals, open_brace, open_bracket, open_paren, or, path, presence_token, question_mark, sign_token, word}
-use Rattle.policy_ast.specs.grammar.Forms.{◌▸◌, ◌◂◌, ◌⊗◌, Chained, Empty, Listed, Made, Many, Node, Optional}
-use Rattle.policy_ast.specs.grammar.Parts.{Between, Tokens, joint}
+use Rattle.policy_ast.specs.grammar.Fixed.{and, arithmetic_token, close_brace, close_paren, colon, comma, comparison_token, count_token, dot, equals, open_brace, open_paren, or, path, presence_token, sign_token, word}
+use Rattle.policy_ast.specs.grammar.Forms.{◌▸◌, ◌◂◌, ◌⊗◌, Chained, Empty, Listed, Made, Many, Node}
+use Rattle.policy_ast.specs.grammar.Parts.{Nonterminal, Kinds, node_both}
+use Rattle.policy_ast.specs.grammar.Patterns.{PatternOver}
 
 -- what lies inside an expression. The Bool says whether it is a head, which has no `Name {` outside of brackets.
-pub data Place : Type 0 where
-  whole : Bool → Place
-  operand : Bool → Place
-  conditional : Place
+pub data Level : Type 0 where
+  whole : Bool → Level
+  operand : Bool → Level
+  conditional : Level
 
 -- Below is what lies inside.
-module _ (Below : Place → Between Expr) where
+module _ (Below : Level → Nonterminal Expr) where
   -- bind = Name ":" expr
-  abbrev pub BindOver : Between (Bind Expr)
+  abbrev pub BindOver : Nonterminal (Bind Expr)
   BindOver = Made (λ t. record { name = t.0; value = t.1 }) (IsName ⊗ colon ▸ Below (whole false))
 
-  -- "?" | expr
-  pub data FreeValueOver (ts rest : Tokens) (a : Part (Option Expr)) : Type 0 where
-    any : (question_mark ▸ Made (λ none. None) Empty) ts rest a → FreeValueOver ts rest a
-    value : Made Some (Below (whole false)) ts rest a → FreeValueOver ts rest a
-
-  -- free = Name ":" ("?" | expr)
-  abbrev pub FreeOver : Between (Free Expr)
-  FreeOver = Made (λ t. record { name = t.0; value = t.1 }) (IsName ⊗ colon ▸ FreeValueOver)
-
-  -- pattern = Name "[" list(free) "]" ("=>" "{" list(free) "}")?
-  abbrev pub PatternOver : Between (Pattern Expr)
-  PatternOver = Made (λ t. record { fact = t.0; keys = t.1.0; values = t.1.1 })
-      (IsName ⊗ open_bracket ▸ Listed FreeOver close_bracket ⊗ Optional arrow (open_brace ▸ Listed FreeOver close_brace))
-
   -- let = "let" Name "=" expr
-  abbrev pub LetOver : Between (Let Expr)
+  abbrev pub LetOver : Nonterminal (Let Expr)
   LetOver = word "let" ▸ Node (λ t. record { name = t.0; value = t.1 }) (IsName ⊗ equals ▸ Below (whole false))
 
   -- ebody = "{" let* ":" expr "}"
-  abbrev pub BodyOver : Between (ExprBlock Expr)
+  abbrev pub BodyOver : Nonterminal (ExprBlock Expr)
   BodyOver = open_brace ▸ Made (λ t. record { lets = t.0; value = t.1 }) (Many LetOver colon ⊗ Below (whole false) ◂ close_brace)
 
   -- ebody | an "if" of this kind
-  pub data ElseOver (ts rest : Tokens) (a : Part (ElseExpr Expr)) : Type 0 where
-    body : Made else_expr.Block BodyOver ts rest a → ElseOver ts rest a
-    else_if : Made else_expr.If (Below conditional) ts rest a → ElseOver ts rest a
+  pub data ElseExprOver (ts rest : Kinds) (a : Part (ElseExpr Expr)) : Type 0 where
+    body : Made else_expr.Block BodyOver ts rest a → ElseExprOver ts rest a
+    else_if : Made else_expr.If (Below conditional) ts rest a → ElseExprOver ts rest a
 
   -- "if" head ebody "else" (ebody | an "if" of this kind)
-  abbrev pub ConditionalOver : Between Expr
+  abbrev pub ConditionalOver : Nonterminal Expr
   ConditionalOver = word "if" ▸ Node (λ t. expr.If (record { head = t.0; then = t.1.0; otherwise = t.1.1 }))
-      (Below (whole true) ⊗ BodyOver ⊗ word "else" ▸ ElseOver)
+      (Below (whole true) ⊗ BodyOver ⊗ word "else" ▸ ElseExprOver)
 
   -- prim = literal | "None" | "Some" "(" expr ")" | "this" | Name | "(" expr ")"
   --      | Name "::" Name "(" list(expr) ")" | Name "(" list(expr) ")" | Name "{" list(bind) "}"
@@ -70,7 +55,7 @@ module _ (Below : Place → Between Expr) where
   --      | ("query" | "exists") pattern
   --      | ("at_least" | "at_most" | "exactly" | "count_up_to") Number pattern
   --      | "if" head ebody "else" (ebody | an "if" of this kind)
-  pub data PrimaryOver (is_head : Bool) (ts rest : Tokens) (a : Part Expr) : Type 0 where
+  pub data PrimaryOver (is_head : Bool) (ts rest : Kinds) (a : Part Expr) : Type 0 where
     literal : Node expr.Literal IsLiteral ts rest a → PrimaryOver is_head ts rest a
     none : (word "None" ▸ Node (λ none. expr.None) Empty) ts rest a → PrimaryOver is_head ts rest a
     some : (word "Some" ▸ Node expr.Some (open_paren ▸ Below (whole false) ◂ close_paren)) ts rest a → PrimaryOver is_head ts rest a
@@ -81,40 +66,40 @@ module _ (Below : Place → Between Expr) where
     call : Node (λ t. expr.Call t.0 t.1) (IsName ⊗ open_paren ▸ Listed (Below (whole false)) close_paren) ts rest a → PrimaryOver is_head ts rest a
     fields : is_head ≡ false → Node (λ t. expr.Struct t.0 t.1) (IsName ⊗ open_brace ▸ Listed BindOver close_brace) ts rest a → PrimaryOver is_head ts rest a
     arithmetic : (op : Arithmetic) → (arithmetic_token op ▸ Node (λ t. expr.Arithmetic op t.0 t.1) (open_paren ▸ Below (whole false) ⊗ comma ▸ Below (whole false) ◂ close_paren)) ts rest a → PrimaryOver is_head ts rest a
-    query : (word "query" ▸ Node expr.Query PatternOver) ts rest a → PrimaryOver is_head ts rest a
-    exists : (word "exists" ▸ Node expr.Exists PatternOver) ts rest a → PrimaryOver is_head ts rest a
-    count : (op : Count) → (count_token op ▸ Node (λ t. expr.Count op t.0 t.1) (IsNumber ⊗ PatternOver)) ts rest a → PrimaryOver is_head ts rest a
-    choice : ConditionalOver ts rest a → PrimaryOver is_head ts rest a
+    query : (word "query" ▸ Node expr.Query (PatternOver (Below (whole false)))) ts rest a → PrimaryOver is_head ts rest a
+    exists : (word "exists" ▸ Node expr.Exists (PatternOver (Below (whole false)))) ts rest a → PrimaryOver is_head ts rest a
+    count : (op : Count) → (count_token op ▸ Node (λ t. expr.Count op t.0 t.1) (IsNumber ⊗ PatternOver (Below (whole false)))) ts rest a → PrimaryOver is_head ts rest a
+    «if» : ConditionalOver ts rest a → PrimaryOver is_head ts rest a
 
   -- unary = ("!" | "unwrap" | "check_unwrap") unary | prim ("." Name)*
-  pub data UnaryOver (is_head : Bool) (ts rest : Tokens) (a : Part Expr) : Type 0 where
+  pub data UnaryOver (is_head : Bool) (ts rest : Kinds) (a : Part Expr) : Type 0 where
     signed : (op : Unary) → (sign_token op ▸ Node (expr.Unary op) (Below (operand is_head))) ts rest a → UnaryOver is_head ts rest a
-    plain : Chained dot (joint expr.Field) (PrimaryOver is_head) IsName ts rest a → UnaryOver is_head ts rest a
+    plain : Chained dot (node_both expr.Field) (PrimaryOver is_head) IsName ts rest a → UnaryOver is_head ts rest a
 
   -- cmp = unary (("==" | "!=" | "<" | "<=" | ">" | ">=") unary | "is" ("Some" | "None"))?
-  pub data ComparisonOver (is_head : Bool) (ts rest : Tokens) (a : Part Expr) : Type 0 where
+  pub data ComparisonOver (is_head : Bool) (ts rest : Kinds) (a : Part Expr) : Type 0 where
     alone : UnaryOver is_head ts rest a → ComparisonOver is_head ts rest a
     compared : (op : Comparison) → Node (λ t. expr.Compare t.0 op t.1) (UnaryOver is_head ⊗ comparison_token op ▸ UnaryOver is_head) ts rest a → ComparisonOver is_head ts rest a
     is : (op : Presence) → Node (λ x. expr.Is x op) (UnaryOver is_head ◂ word "is" ◂ presence_token op) ts rest a → ComparisonOver is_head ts rest a
 
   -- and = cmp ("&&" cmp)*, grouped to the left
-  abbrev pub AndOver : Bool → Between Expr
-  AndOver is_head = Chained and (joint expr.And) (ComparisonOver is_head) (ComparisonOver is_head)
+  abbrev pub AndOver : Bool → Nonterminal Expr
+  AndOver is_head = Chained and (node_both expr.And) (ComparisonOver is_head) (ComparisonOver is_head)
 
   -- expr = and ("||" and)*, grouped to the left
-  abbrev pub OrOver : Bool → Between Expr
-  OrOver is_head = Chained or (joint expr.Or) (AndOver is_head) (AndOver is_head)
+  abbrev pub OrOver : Bool → Nonterminal Expr
+  OrOver is_head = Chained or (node_both expr.Or) (AndOver is_head) (AndOver is_head)
 
-  abbrev pub ExprOver : Place → Between Expr
+  abbrev pub ExprOver : Level → Nonterminal Expr
   ExprOver (whole is_head) = OrOver is_head
   ExprOver (operand is_head) = UnaryOver is_head
   ExprOver conditional = ConditionalOver
 
 -- expressions that lie in one another fewer than n deep
-abbrev pub ExprWithin : ℕ → Place → Between Expr
-ExprWithin zero place = λ ts rest a. ⊥
-ExprWithin (suc n) place = ExprOver (ExprWithin n) place
+abbrev pub ExprWithin : ℕ → Level → Nonterminal Expr
+ExprWithin zero level = λ ts rest a. ⊥
+ExprWithin (suc n) level = ExprOver (ExprWithin n) level
 
 -- an expression: the number is any that is large enough
-pub data IsExpr (place : Place) (ts rest : Tokens) (a : Part Expr) : Type 0 where
-  nested : (n : ℕ) → ExprWithin n place ts rest a → IsExpr place ts rest a
+pub data IsExpr (level : Level) (ts rest : Kinds) (a : Part Expr) : Type 0 where
+  nested : (n : ℕ) → ExprWithin n level ts rest a → IsExpr level ts rest a

@@ -1,9 +1,8 @@
 -- The fixed tokens of the grammar: its symbols, and its words as they stand.
 use Rattle.std.specs.Prelude.{codes}
 use Prim.Native.String.{String}
-use Rattle.policy_ast.specs.declared.symbols.TheConstants as symbols
 use Rattle.policy_ast.specs.declared.token.TokenKind.{TokenKind}
-use Rattle.policy_ast.specs.declared.token.TokenKind.TheVariants.{Word, Symbol}
+use Rattle.policy_ast.specs.declared.token.TokenKind.TheVariants.{Word}
 use Rattle.policy_ast.specs.declared.expr.Arithmetic.{Arithmetic}
 use Rattle.policy_ast.specs.declared.expr.Arithmetic.TheVariants as arithmetic
 use Rattle.policy_ast.specs.declared.expr.Comparison.{Comparison}
@@ -14,69 +13,71 @@ use Rattle.policy_ast.specs.declared.expr.Presence.{Presence}
 use Rattle.policy_ast.specs.declared.expr.Presence.TheVariants as presence
 use Rattle.policy_ast.specs.declared.expr.Unary.{Unary}
 use Rattle.policy_ast.specs.declared.expr.Unary.TheVariants as unary
+use Rattle.policy_ast.specs.Symbols.{symbol}
+use Rattle.policy_ast.specs.Version.{Two}
 
 abbrev pub word : String → TokenKind
 word text = Word (codes text)
 
 abbrev pub open_brace : TokenKind
-open_brace = Symbol symbols.OPEN_BRACE
+open_brace = symbol Two "{"
 
 abbrev pub close_brace : TokenKind
-close_brace = Symbol symbols.CLOSE_BRACE
+close_brace = symbol Two "}"
 
 abbrev pub open_bracket : TokenKind
-open_bracket = Symbol symbols.OPEN_BRACKET
+open_bracket = symbol Two "["
 
 abbrev pub close_bracket : TokenKind
-close_bracket = Symbol symbols.CLOSE_BRACKET
+close_bracket = symbol Two "]"
 
 abbrev pub open_paren : TokenKind
-open_paren = Symbol symbols.OPEN_PAREN
+open_paren = symbol Two "("
 
 abbrev pub close_paren : TokenKind
-close_paren = Symbol symbols.CLOSE_PAREN
+close_paren = symbol Two ")"
 
 abbrev pub comma : TokenKind
-comma = Symbol symbols.COMMA
+comma = symbol Two ","
 
 abbrev pub colon : TokenKind
-colon = Symbol symbols.COLON
+colon = symbol Two ":"
 
 abbrev pub path : TokenKind
-path = Symbol symbols.PATH
+path = symbol Two "::"
 
 abbrev pub dot : TokenKind
-dot = Symbol symbols.DOT
+dot = symbol Two "."
 
 abbrev pub question_mark : TokenKind
-question_mark = Symbol symbols.QUESTION_MARK
+question_mark = symbol Two "?"
 
 abbrev pub equals : TokenKind
-equals = Symbol symbols.EQUALS
+equals = symbol Two "="
 
 abbrev pub arrow : TokenKind
-arrow = Symbol symbols.ARROW
+arrow = symbol Two "=>"
 
 abbrev pub and : TokenKind
-and = Symbol symbols.AND
+and = symbol Two "&&"
 
 abbrev pub or : TokenKind
-or = Symbol symbols.OR
+or = symbol Two "||"
 
 abbrev pub bar : TokenKind
-bar = Symbol symbols.BAR
+bar = symbol Two "|"
 
 abbrev pub underscore : TokenKind
-underscore = Symbol symbols.UNDERSCORE
+underscore = symbol Two "_"
 
 -- `==` `!=` `<` `<=` `>` `>=`
 abbrev pub comparison_token : Comparison → TokenKind
-comparison_token comparison.Equal = Symbol symbols.EQUAL
-comparison_token comparison.NotEqual = Symbol symbols.NOT_EQUAL
-comparison_token comparison.Less = Symbol symbols.LESS
-comparison_token comparison.LessOrEqual = Symbol symbols.LESS_OR_EQUAL
-comparison_token comparison.Greater = Symbol symbols.GREATER
-comparison_token comparison.GreaterOrEqual = Symbol symbols.GREATER_OR_EQUAL
+comparison_token comparison.Equal = symbol Two "=="
+comparison_token comparison.NotEqual = symbol Two "!="
+comparison_token comparison.Less = symbol Two "<"
+comparison_token comparison.LessOrEqual = symbol Two "<="
+comparison_token comparison.Greater = symbol Two ">"
+comparison_token comparison.GreaterOrEqual = symbol Two ">="
 
 -- what stands behind `is`
 abbrev pub presence_token : Presence → TokenKind
@@ -85,7 +86,7 @@ presence_token presence.None = word "None"
 
 -- the signs before an operand
 abbrev pub sign_token : Unary → TokenKind
-sign_token unary.Not = Symbol symbols.NOT
+sign_token unary.Not = symbol Two "!"
 sign_token unary.Unwrap = word "unwrap"
 sign_token unary.CheckUnwrap = word "check_unwrap"
 

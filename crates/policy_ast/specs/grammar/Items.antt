@@ -10,18 +10,18 @@ use Rattle.policy_ast.specs.declared.part.Part.{Part}
 use Rattle.policy_ast.specs.grammar.Fields.{IsEffectField, IsField, IsLiteral, IsName, IsType}
 use Rattle.policy_ast.specs.grammar.Fixed.{arrow, close_brace, close_bracket, close_paren, colon, equals, open_brace, open_bracket, open_paren, path, word}
 use Rattle.policy_ast.specs.grammar.Forms.{◌▸◌, ◌⊗◌, Empty, Listed, Made, Many, Node}
-use Rattle.policy_ast.specs.grammar.Parts.{Between, Tokens}
+use Rattle.policy_ast.specs.grammar.Parts.{Nonterminal, Kinds}
 use Rattle.policy_ast.specs.grammar.Statements.{IsBlock, IsFinishBlock}
 
 -- Name ":" literal
-abbrev pub IsAttribute : Between Attribute
+abbrev pub IsAttribute : Nonterminal Attribute
 IsAttribute = Made (λ t. record { name = t.0; value = t.1 }) (IsName ⊗ colon ▸ IsLiteral)
 
 -- section = "attributes" "{" list(Name ":" literal) "}" | "fields" "{" list(field) "}"
 --         | "seal" "{" "return" "envelope" "::" "do_seal" "(" "serialize" "(" "this" ")" ")" "}"
 --         | "open" "{" "return" "deserialize" "(" "envelope" "::" "do_open" "(" "envelope" ")" ")" "}"
 --         | "policy" block | "recall" block
-pub data IsSection (ts rest : Tokens) (a : Part Section) : Type 0 where
+pub data IsSection (ts rest : Kinds) (a : Part Section) : Type 0 where
   attributes : (word "attributes" ▸ Node section.Attributes (open_brace ▸ Listed IsAttribute close_brace)) ts rest a → IsSection ts rest a
   fields : (word "fields" ▸ Node section.Fields (open_brace ▸ Listed IsField close_brace)) ts rest a → IsSection ts rest a
   seal : (word "seal" ▸ Node (λ none. section.Seal)
@@ -32,11 +32,11 @@ pub data IsSection (ts rest : Tokens) (a : Part Section) : Type 0 where
   recall : (word "recall" ▸ Node section.Recall IsBlock) ts rest a → IsSection ts rest a
 
 -- "(" list(field) ")"
-abbrev pub IsParameters : Between (List Field)
+abbrev pub IsParameters : Nonterminal (List Field)
 IsParameters = open_paren ▸ Listed IsField close_paren
 
 -- "fact" Name "[" list(field) "]" "=>" "{" list(field) "}"
-abbrev pub IsFact : (is_immutable : Bool) → Between Item
+abbrev pub IsFact : (is_immutable : Bool) → Nonterminal Item
 IsFact is_immutable = word "fact" ▸ Node (λ t. item.Fact is_immutable t.0 t.1.0 t.1.1) (IsName ⊗ open_bracket ▸ Listed IsField close_bracket ⊗ arrow ▸ open_brace ▸ Listed IsField close_brace)
 
 -- item = "use" Name | "let" Name "=" literal
@@ -47,7 +47,7 @@ IsFact is_immutable = word "fact" ▸ Node (λ t. item.Fact is_immutable t.0 t.1
 --      | "function" Name "(" list(field) ")" type block
 --      | "finish" "function" Name "(" list(field) ")" fblock
 --      | "action" Name "(" list(field) ")" block
-pub data IsItemTree (ts rest : Tokens) (a : Part Item) : Type 0 where
+pub data IsItemTree (ts rest : Kinds) (a : Part Item) : Type 0 where
   «use» : (word "use" ▸ Node item.Use IsName) ts rest a → IsItemTree ts rest a
   «let» : (word "let" ▸ Node (λ t. item.Let t.0 t.1) (IsName ⊗ equals ▸ IsLiteral)) ts rest a → IsItemTree ts rest a
   enum : (word "enum" ▸ Node (λ t. item.Enum t.0 t.1) (IsName ⊗ open_brace ▸ Listed IsName close_brace)) ts rest a → IsItemTree ts rest a

@@ -1,39 +1,42 @@
--- A policy, and the place of a syntax fault.
-use Rattle.std.specs.Prelude.{◌≡◌, ℕ, ◌-◌, ◌<◌, ◌≤◌, List, [], ◌∷◌, length, map, slice_get, Some, option_map}
+-- A policy, and the line of a syntax fault.
+use Rattle.std.specs.Prelude.{ℕ, ◌≤◌, List, [], ◌∷◌, drop, length, map}
 use Rattle.policy_ast.specs.declared.item.Item.{Item}
+use Rattle.policy_ast.specs.declared.policy.PlacedItem.{PlacedItem}
 use Rattle.policy_ast.specs.declared.token.Token.{Token}
 use Rattle.policy_ast.specs.grammar.Items.{IsItemTree}
-use Rattle.policy_ast.specs.grammar.Parts.{Tokens}
+use Rattle.policy_ast.specs.grammar.Parts.{Kinds}
 
 -- at most so many nodes stand on one path of an item's tree
 abbrev pub max_height : ℕ
 max_height = 64
 
-pub data IsItem (ts rest : Tokens) (x : Item) : Type 0 where
+pub data IsItem (ts rest : Kinds) (x : Item) : Type 0 where
   low : (height : ℕ) → IsItemTree ts rest (record { tree = x; height = height }) → height ≤ max_height → IsItem ts rest x
 
--- items, one after another
-pub data IsRun : Tokens → Tokens → List Item → Type 0 where
-  done : {ts : Tokens} → IsRun ts ts []
-  more : {ts mid rest : Tokens} {x : Item} {xs : List Item} → IsItem ts mid x → IsRun mid rest xs → IsRun ts rest (x ∷ xs)
-
--- tokens spell the policy of these items. A policy of 2^32 items, or an enum of 2^32 variants, has that many tokens at least.
-abbrev pub Spells : Tokens → List Item → Type 0
-Spells ts items = IsRun ts [] items
-
--- what is left behind the longest run of whole items with which the tokens begin
-pub record LongestRun (ts rest : Tokens) : Type 0 where
-  pub items : List Item
-  pub run : IsRun ts rest items
-  pub longest : (other : Tokens) (others : List Item) → IsRun ts other others → length rest ≤ length other
-
--- the kinds of tokens, which alone the grammar looks at
-abbrev pub kinds : List Token → Tokens
+-- the kinds of tokens, which alone an item looks at
+abbrev pub kinds : List Token → Kinds
 kinds tokens = map (λ t. t.kind) tokens
 
--- the line of a syntax fault: that of the first token behind the longest run, where so many tokens stand as are left behind it
-pub record IsFaultLine (tokens : List Token) (line : ℕ) : Type 0 where
-  pub rest : Tokens
-  pub run : LongestRun (kinds tokens) rest
-  pub left : 0 < length rest
-  pub at : option_map (λ t. t.line) (slice_get tokens (length tokens - length rest)) ≡ Some line
+-- an item at the line of the token that it begins with
+abbrev pub placed : Token → Item → PlacedItem
+placed first x = record { line = first.line; item = x }
+
+-- items, one after another: the tokens where they begin, the tokens behind them, and the items. The first of them takes one token and n more.
+pub data IsRun : List Token → List Token → List PlacedItem → Type 0 where
+  done : {ts : List Token} → IsRun ts ts []
+  more : {t : Token} {ts rest : List Token} {x : Item} {xs : List PlacedItem} (n : ℕ)
+      → IsItem (kinds (t ∷ ts)) (kinds (drop n ts)) x → IsRun (drop n ts) rest xs → IsRun (t ∷ ts) rest (placed t x ∷ xs)
+
+-- tokens spell the policy of these items. A policy of 2^32 items, or an enum of 2^32 variants, has that many tokens at least.
+abbrev pub Spells : List Token → List PlacedItem → Type 0
+Spells tokens items = IsRun tokens [] items
+
+-- what is left behind the longest run of whole items with which the tokens begin
+pub record LongestRun (tokens rest : List Token) : Type 0 where
+  pub items : List PlacedItem
+  pub run : IsRun tokens rest items
+  pub longest : (other : List Token) (others : List PlacedItem) → IsRun tokens other others → length rest ≤ length other
+
+-- the line of a syntax fault is that of the first token that is left behind the longest run
+pub data IsFaultLine : List Token → ℕ → Type 0 where
+  behind_run : {tokens : List Token} (first : Token) (rest : List Token) → LongestRun tokens (first ∷ rest) → IsFaultLine tokens first.line

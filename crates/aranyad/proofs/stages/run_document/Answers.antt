@@ -6,8 +6,8 @@ use Rattle.aranyad.proofs.stages.run_document.Goals as goal
 pub returns-in-Ok-clause-run : goal.returns-in-Ok-clause-run
 returns-in-Ok-clause-run g c =
     told_map (g.F.Files.holds c.args.files.now) _ _
-    (λ at runs. tokens_found g.E.Envelope.tag_of c.args.document.now (limited script_limit (at c.args.script)) c.in-Ok.tokens c.run_tokens.result _ _ c.in-Ok.ensures.answer runs)
-    (rw c.as_slice.ensures at c.run_tokens.ensures.run)
+    (λ at runs. tokens_found g.E.Envelope.tag_of c.args.document.now (limited script_limit (at c.args.script)) c.in-Ok.tokens.items c.run_tokens.result _ _ c.in-Ok.ensures.answer runs)
+    (rw c.as_slice.ensures.value at c.run_tokens.ensures.run)
 
 pub returns-clause-run : goal.returns-clause-run
 returns-clause-run g c =

@@ -1,6 +1,6 @@
 use Rattle.std.proofs.Common.{◌∷◌, [], sym, ◌∙◌, true, false}
 use Rattle.std.proofs.Math.Nat.{le_refl}
-use Rattle.policy_lex.specs.LineViews.{lines_at, seen}
+use Rattle.policy_lex.specs.working.LineViews.{lines_at, seen}
 use Rattle.policy_lex.proofs.BlockSteps.{blocks_other, blocks_opened, blocks_none, no_blocks}
 use Rattle.policy_lex.proofs.blocks.part_at.Goals as goal
 

@@ -1,4 +1,4 @@
-use Rattle.std.proofs.Common.{◌≤◌, ◌+◌, sym, ◌∙◌, arith, ap}
+use Rattle.std.proofs.Common.{◌≤◌, ◌+◌, sym, ◌∙◌, arith, ap, length}
 use Rattle.policy_ast.specs.Fences.{blocks_from}
 use Rattle.policy_lex.proofs.BlockSteps.{blocks_more, blocks_until, no_blocks, with_no_more, with_one_more, with_plain}
 use Rattle.policy_lex.proofs.LineNumbers.{number_counted}
@@ -16,10 +16,10 @@ loop-place-preserved c =
           let before : place ≤ w.in-Block.from = omega (arith, places.0) in
           let line = c.loop-place.number + w.line_feeds.result in
           record {
-            left = rw (w.blocks-is, w.next-is, w.in_ok-push_block-in-Block.ensures)
+            rest = rw (w.blocks-is, w.next-is, w.in_ok-push_block-in-Block.ensures)
                 (with_one_more c.loop-place.blocks (record { from = w.in-Block.from; to = w.in-Block.to; line = line }) _
                 ∙ ap (with_plain c.loop-place.blocks) (sym w.in-Block.ensures.blocks ∙ sym (ap (blocks_from 0 document) c.line_at-line.ensures.line))
-                ∙ c.loop-place.invariant.left);
+                ∙ c.loop-place.invariant.rest);
             number = number_counted document place c.match-part_at.next _ _ (rw w.next-is after) c.loop-place.invariant.number c.line_feeds-number-in-loop-place.ensures.count;
             places = rw (w.blocks-is, w.next-is, w.in_ok-push_block-in-Block.ensures)
                 (blocks_until document c.args.start _ w.in-Block.to w.in-Block.next (omega (arith, places.2))
@@ -36,16 +36,20 @@ loop-place-preserved c =
           let places = w.in-Other.ensures.places in
           let after : place ≤ w.in-Other.next = omega (arith, places.0) in
           record {
-            left = rw (w.blocks-is, w.next-is)
-                (ap (with_plain c.loop-place.blocks) (sym w.in-Other.ensures.blocks ∙ sym (ap (blocks_from 0 document) c.line_at-line.ensures.line)) ∙ c.loop-place.invariant.left);
+            rest = rw (w.blocks-is, w.next-is)
+                (ap (with_plain c.loop-place.blocks) (sym w.in-Other.ensures.blocks ∙ sym (ap (blocks_from 0 document) c.line_at-line.ensures.line)) ∙ c.loop-place.invariant.rest);
             number = number_counted document place c.match-part_at.next _ _ (rw w.next-is after) c.loop-place.invariant.number c.line_feeds-number-in-loop-place.ensures.count;
             places = rw (w.blocks-is, w.next-is) (blocks_until document c.args.start c.loop-place.blocks place w.in-Other.next after c.loop-place.invariant.places);
             within = rw w.next-is places.1;
           }
     ]
 
-pub returns-clause-answer : goal.returns-clause-answer
-returns-clause-answer c =
-    sym c.loop-place.invariant.left
+pub returns-clause-blocks : goal.returns-clause-blocks
+returns-clause-blocks c =
+    sym c.loop-place.invariant.rest
     ∙ ap (with_plain c.loop-place.blocks) (no_blocks c.args.document.now c.loop-place.place (omega arith))
     ∙ with_no_more c.loop-place.blocks
+
+pub returns-in-Open-clause-places : goal.returns-in-Open-clause-places
+returns-in-Open-clause-places c =
+    blocks_until c.args.document.now c.args.start c.loop-place.blocks c.loop-place.place (length c.args.document.now) c.loop-place.invariant.within c.loop-place.invariant.places

@@ -1,20 +1,19 @@
 use Rattle.std.proofs.Common.{◌-◌, ◌+◌, length, sym, ◌∙◌, arith}
-use Rattle.policy_ast.specs.grammar.Policies.{kinds}
-use Rattle.policy_parse.proofs.Whole.{item_leaves, items_end, items_full, items_go_on}
+use Rattle.policy_parse.proofs.Whole.{placed_within, run_ends, run_full, run_goes_on}
 use Rattle.policy_parse.proofs.policy.items.Goals as goal
 
 pub returns-in_default : goal.returns-in_default
 returns-in_default c =
-    sym (items_end (length c.args.tokens.now - c.loop.counter) c.loop.found (kinds c.loop.rest.now) (rw c.in_default.is at c.in_ok-one.ensures)) ∙ c.loop.invariant.read
+    sym (run_ends (length c.args.tokens.now - c.loop.counter) c.loop.found c.loop.rest.now (rw c.in_default.is at c.in_ok-one.ensures)) ∙ c.loop.invariant.read
 
 pub loop-preserved : goal.loop-preserved
 loop-preserved c = record {
   read = rw c.in_ok-push.ensures.ok
-      (sym (items_go_on (length c.args.tokens.now - c.loop.counter) (length c.args.tokens.now - (c.loop.counter + 1)) c.loop.found (kinds c.loop.rest.now) (kinds c.in-Some.behind.now) c.in-Some.one
+      (sym (run_goes_on (length c.args.tokens.now - c.loop.counter) (length c.args.tokens.now - (c.loop.counter + 1)) c.loop.found c.loop.rest.now c.in-Some.behind.now c.in-Some.one
       (omega (arith, c.loop-test.true)) (rw c.in-Some.is at c.in_ok-one.ensures))
       ∙ c.loop.invariant.read);
-  within = let less = item_leaves c.loop.rest.now c.in-Some.behind.now c.in-Some.one (rw c.in-Some.is at c.in_ok-one.ensures) in let within = c.loop.invariant.within in omega (arith, less, within);
+  within = let less = placed_within c.loop.rest.now c.in-Some.behind.now c.in-Some.one (rw c.in-Some.is at c.in_ok-one.ensures) in let within = c.loop.invariant.within in omega (arith, less, within);
 }
 
 pub returns : goal.returns
-returns c = sym (items_full (length c.args.tokens.now - c.loop.counter) c.loop.found (kinds c.loop.rest.now) (omega (arith, c.loop-test.false))) ∙ c.loop.invariant.read
+returns c = sym (run_full (length c.args.tokens.now - c.loop.counter) c.loop.found c.loop.rest.now (omega (arith, c.loop-test.false))) ∙ c.loop.invariant.read

@@ -1,10 +1,9 @@
 use Rattle.std.proofs.Common.{◌≡◌, ◌-◌, ◌≤◌, [], length}
-use Rattle.policy_ast.specs.grammar.Policies.{kinds}
-use Rattle.policy_ast.proofs.grammar.ReadingItems.{read_items}
+use Rattle.policy_ast.proofs.grammar.ReadingItems.{read_run}
 use Rattle.policy_parse.proofs.policy.items.Given as goal
 
 abbrev pub invariant-loop : goal.invariant-loop
 invariant-loop l = record {
-  read : read_items (length l.tokens - l.counter) l.found (kinds l.rest) ≡ read_items (length l.tokens) [] (kinds l.tokens);
+  read : read_run (length l.tokens - l.counter) l.found l.rest ≡ read_run (length l.tokens) [] l.tokens;
   within : length l.rest ≤ length l.tokens;
 }

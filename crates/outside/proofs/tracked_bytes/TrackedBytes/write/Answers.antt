@@ -6,7 +6,7 @@ use Rattle.outside.proofs.tracked_bytes.TrackedBytes.write.Goals as goal
 
 pub invariant_of-self-2 : goal.invariant_of-self-2
 invariant_of-self-2 c =
-    let write : Replaced = record { at = c.args.at; written = length c.args.front.now; under = c.in_ok-under.under; range_length = c.args.range_length } in
+    let write : Replaced = record { at = c.args.at; written_length = length c.args.front.now; under = c.in_ok-under.under; range_length = c.args.range_length } in
     let pushed : c.push.new.self.items ≡ c.args.self.now.writes.items ++ write ∷ [] = search rules in
     let is : c.overwrite.new.bytes.items ≡ overwritten c.args.self.now.bytes.items c.args.at c.args.front.now = search rules in
     let under : c.in_ok-under.under ≡ take (length c.args.front.now) (drop c.args.at c.args.self.now.bytes.items) = search rules in
@@ -14,7 +14,7 @@ invariant_of-self-2 c =
 
 pub returns-clause-ok : goal.returns-clause-ok
 returns-clause-ok c =
-    let write : Replaced = record { at = c.args.at; written = length c.args.front.now; under = c.in_ok-under.under; range_length = c.args.range_length } in
+    let write : Replaced = record { at = c.args.at; written_length = length c.args.front.now; under = c.in_ok-under.under; range_length = c.args.range_length } in
     let pushed : c.push.new.self.items ≡ c.args.self.now.writes.items ++ write ∷ [] = search rules in
     let is : c.overwrite.new.bytes.items ≡ overwritten c.args.self.now.bytes.items c.args.at c.args.front.now = search rules in
     let under : c.in_ok-under.under ≡ take (length c.args.front.now) (drop c.args.at c.args.self.now.bytes.items) = search rules in

@@ -1,0 +1,7 @@
+mod Lists
+mod Pasts
+mod Others
+mod Unchanged
+mod Drawing
+mod Taking
+mod Seating
