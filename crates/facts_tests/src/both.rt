@@ -38,7 +38,7 @@ fn some_keys(alloc: Global, numbers: &mut Numbers, most: u32) -> Result<Values, 
 {
     let count = numbers.below(most.saturating_add(1));
     let mut values = Items::new(alloc);
-    for _ in 0..count {
+    'keys: for _ in 0..count {
         values.push(Value::Int(i64::from(numbers.below(6))))?;
     }
     Ok(values)
