@@ -6,3 +6,11 @@ pub mod Shapes
 pub mod Scopes
 pub mod FieldLists
 pub mod Expressions
+pub mod Coverage
+pub mod Finish
+pub mod Statements
+pub mod Nesting
+pub mod Calls
+pub mod Commands
+pub mod Items
+pub mod WellTyped
