@@ -14,3 +14,4 @@ pub mod Calls
 pub mod Commands
 pub mod Items
 pub mod WellTyped
+pub mod working
