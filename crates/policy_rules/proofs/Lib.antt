@@ -1,3 +1,4 @@
 -- Lemmas of this crate.
 pub mod Maps
 pub mod Inferring
+pub mod Finding
