@@ -2,3 +2,4 @@
 pub mod Maps
 pub mod Inferring
 pub mod Finding
+pub mod TypeLaws

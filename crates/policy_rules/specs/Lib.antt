@@ -15,3 +15,4 @@ pub mod Commands
 pub mod Items
 pub mod WellTyped
 pub mod working
+pub mod Laws

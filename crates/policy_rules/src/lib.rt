@@ -2,6 +2,7 @@
 #![tactic(auto)]
 
 mod context;
+pub mod laws;
 mod types;
 
 pub use context::{Block, Context};
