@@ -1,0 +1,5 @@
+-- Lemmas of this crate.
+pub mod Maps
+pub mod Inferring
+pub mod Finding
+pub mod TypeLaws

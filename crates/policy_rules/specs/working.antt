@@ -1,0 +1,2 @@
+-- What the code is shown by, step by step.
+pub mod Inference
