@@ -1,0 +1,11 @@
+//! What policies mean: how expressions and statements are evaluated, what the blocks of a command make of facts, and the traits of those who run
+//! blocks and take what actions publish.
+#![tactic(auto)]
+
+mod call;
+mod effect;
+mod ends;
+
+pub use call::Call;
+pub use effect::{Effect, Effects};
+pub use ends::{ActionEnd, FaultKind, Posted, Verdict, Why};
