@@ -2,3 +2,14 @@
 pub mod Outcomes
 pub mod Environments
 pub mod Values
+pub mod Patterns
+pub mod Expressions
+pub mod Arms
+pub mod Finish
+pub mod Statements
+pub mod Functions
+pub mod Applying
+pub mod Blocks
+pub mod Typed
+pub mod Actions
+pub mod Desks
