@@ -3,9 +3,13 @@
 #![tactic(auto)]
 
 mod call;
+mod desk;
 mod effect;
 mod ends;
+mod runner;
 
 pub use call::Call;
+pub use desk::Desk;
 pub use effect::{Effect, Effects};
 pub use ends::{ActionEnd, FaultKind, Posted, Verdict, Why};
+pub use runner::Runner;
