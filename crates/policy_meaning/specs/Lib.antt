@@ -13,3 +13,4 @@ pub mod Blocks
 pub mod Typed
 pub mod Actions
 pub mod Desks
+pub mod Commands

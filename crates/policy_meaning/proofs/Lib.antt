@@ -1,0 +1,4 @@
+-- Lemmas that the proofs of this crate share, and those that crates above cite.
+pub mod TypedFacts
+pub mod EvaluationRows
+pub mod ValueRows

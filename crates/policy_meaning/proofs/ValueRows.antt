@@ -1,0 +1,34 @@
+-- What operations give, computed on small values.
+use Rattle.std.proofs.Common.{◌≡◌, ℤ, pos, negsuc, ◌^◌, ◌-◌, List, [], ◌∷◌, codes, refl, Some, None, true, false}
+use Rattle.base_bytes.specs.declared.value.Value.TheVariants as value
+use Rattle.policy_ast.specs.declared.expr.Arithmetic.TheVariants as arithmetic
+use Rattle.policy_meaning.specs.Values.{calculated, in_order, counted}
+
+greatest : ℤ
+greatest = pos (2 ^ 63 - 1)
+
+least : ℤ
+least = negsuc (2 ^ 63 - 1)
+
+sum_in_range : calculated arithmetic.Add (pos 2) (negsuc 2) ≡ value.Some (value.Int (negsuc 0))
+sum_in_range = refl
+
+sum_out_of_range : calculated arithmetic.Add greatest (pos 1) ≡ value.Nothing
+unfolding greatest
+sum_out_of_range = refl
+
+difference_out_of_range : calculated arithmetic.Sub least (pos 1) ≡ value.Nothing
+unfolding least
+difference_out_of_range = refl
+
+least_is_in_range : calculated arithmetic.Sub (negsuc (2 ^ 63 - 2)) (pos 1) ≡ value.Some (value.Int least)
+unfolding least
+least_is_in_range = refl
+
+sum_stops_at_the_end : calculated arithmetic.SaturatingAdd greatest (pos 1) ≡ value.Int greatest
+unfolding greatest
+sum_stops_at_the_end = refl
+
+difference_stops_at_the_end : calculated arithmetic.SaturatingSub least (pos 1) ≡ value.Int least
+unfolding least
+difference_stops_at_the_end = refl

@@ -1,0 +1,77 @@
+-- The call that a command of the graph is, and what it makes of the facts by its policy and recall blocks.
+use Rattle.std.specs.Prelude.{ℕ, if◌then◌else◌, List, length, Option, Some, None, option_map, option_and_then}
+use Rattle.base_bytes.specs.Reading.{ended}
+use Rattle.base_bytes.specs.declared.ty.Ty.TheVariants as ty
+use Rattle.base_bytes.specs.declared.value.Value.{Value}
+use Rattle.base_bytes.specs.working.Decoding.{value_at}
+use Rattle.command.specs.Wire.{command_id}
+use Rattle.command.specs.declared.command.Command.{Command}
+use Rattle.command.specs.declared.command.Command.TheVariants as command
+use Rattle.fact_store.specs.declared.row.Row.{Row}
+use Rattle.policy_ast.specs.declared.item.Item.{Item}
+use Rattle.policy_ast.specs.declared.policy.PlacedItem.{PlacedItem}
+use Rattle.policy_meaning.specs.Applying.{Ended, Passes, Checks, Faults, Sticks}
+use Rattle.policy_meaning.specs.Blocks.{policy_block, recall_block}
+use Rattle.policy_meaning.specs.Values.{struct_parts}
+use Rattle.policy_meaning.specs.declared.call.Call.{Call}
+use Rattle.policy_meaning.specs.declared.effect.Effect.{Effect}
+use Rattle.policy_rules.specs.Heads.{is_command, names_item}
+use Rattle.policy_rules.specs.Names.{Name, number_named}
+use Rattle.policy_rules.specs.Shapes.{shapes_of}
+use Rattle.policy_rules.specs.WellTyped.{items_of}
+
+-- The name, the payload and the author of a command; a merge has none.
+pub record Content : Type 0 where
+  pub name : List ℕ
+  pub payload : List ℕ
+  pub author : List ℕ
+
+abbrev pub content_of : Command → Option Content
+content_of (command.Init digest author name payload tag) = Some (record { name = name; payload = payload; author = author })
+content_of (command.Basic priority parent author name payload tag) = Some (record { name = name; payload = payload; author = author })
+content_of (command.Finalize parent author name payload tag) = Some (record { name = name; payload = payload; author = author })
+content_of (command.Merge left right) = None
+
+-- The item number of the command of this name, where the policy declares one.
+abbrev pub command_number : List Item → Name → Option ℕ
+command_number items name = if names_item is_command items name then number_named items name else None
+
+-- The fields whose spelling the payload is: the value of the struct of this number that is read of all of the bytes.
+abbrev pub payload_fields : List Item → ℕ → List ℕ → Option (List Value)
+payload_fields items number payload =
+    option_and_then (λ v. option_map (λ parts. parts.1) (struct_parts v)) (option_and_then ended (value_at (shapes_of items) (length items) (ty.Struct number) payload))
+
+abbrev pub call_by : List Item → List ℕ → Content → Option Call
+call_by items id content =
+    option_and_then
+      (λ number. option_map (λ fields. record { command = number; fields = fields; author = content.author; id = id }) (payload_fields items number content.payload))
+      (command_number items content.name)
+
+-- The call that a command is. It is none where the policy doesn't declare the name, or where the payload is no value of the fields.
+unfoldable pub call_of : List PlacedItem → Command → Option Call
+call_of policy c = option_and_then (call_by (items_of policy) (command_id c)) (content_of c)
+
+-- What a command comes to: its policy passes, or a check of it fails and its recall passes, or nothing.
+pub data Judged : Type 0 where
+  Pass : (rows : List Row) → (effects : List Effect) → Judged
+  Recalled : (rows : List Row) → (effects : List Effect) → Judged
+  Void : Judged
+
+-- After a check of the policy failed: a failed check or a fault of the recall changes nothing.
+abbrev pub recalled : Ended → Judged
+recalled (Passes rows effects) = Recalled rows effects
+recalled other = Void
+
+-- By how the policy block ends; after a fault no recall is run.
+abbrev pub judged_by : Ended → Ended → Judged
+judged_by (Passes rows effects) recall = Pass rows effects
+judged_by (Checks named) recall = recalled recall
+judged_by other recall = Void
+
+abbrev pub call_judged : List PlacedItem → List Row → Option Call → Judged
+call_judged policy rows None = Void
+call_judged policy rows (Some call) = judged_by (policy_block policy call rows) (recall_block policy call rows)
+
+-- What a command comes to over these facts.
+abbrev pub judged : List PlacedItem → List Row → Command → Judged
+judged policy rows c = call_judged policy rows (call_of policy c)
