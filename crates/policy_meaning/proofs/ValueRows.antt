@@ -1,8 +1,11 @@
 -- What operations give, computed on small values.
-use Rattle.std.proofs.Common.{◌≡◌, ℤ, pos, negsuc, ◌^◌, ◌-◌, List, [], ◌∷◌, codes, refl, Some, None, true, false}
+use Rattle.std.proofs.Common.{◌≡◌, ℤ, pos, negsuc, ◌^◌, ◌-◌, List, [], ◌∷◌, codes, refl, ap, Some, None, true, false}
+use Rattle.base_bytes.specs.declared.value.Value.{Value}
 use Rattle.base_bytes.specs.declared.value.Value.TheVariants as value
+use Rattle.fact_store.proofs.Sameness.{same_value_decides}
 use Rattle.policy_ast.specs.declared.expr.Arithmetic.TheVariants as arithmetic
-use Rattle.policy_meaning.specs.Values.{calculated, in_order, counted}
+use Rattle.policy_ast.specs.declared.expr.Comparison.TheVariants as comparison
+use Rattle.policy_meaning.specs.Values.{calculated, comparison_value}
 
 greatest : ℤ
 greatest = pos (2 ^ 63 - 1)
@@ -32,3 +35,7 @@ sum_stops_at_the_end = refl
 difference_stops_at_the_end : calculated arithmetic.SaturatingSub least (pos 1) ≡ value.Int least
 unfolding least
 difference_stops_at_the_end = refl
+
+-- Equality is equality of values.
+equal_values : (v w : Value) → v ≡ w → comparison_value comparison.Equal v w ≡ Some (value.Bool true)
+equal_values v w is = ap (λ b. Some (value.Bool b)) ((same_value_decides v w).1 is)

@@ -14,3 +14,4 @@ pub mod Typed
 pub mod Actions
 pub mod Desks
 pub mod Commands
+pub mod Resolving
