@@ -1,5 +1,5 @@
 -- The order of evaluation and the turns, shown at single forms.
-use Rattle.std.proofs.Common.{◌≡◌, ℕ, Bool, true, false, IsTrue, List, [], ◌∷◌, map, refl, ap, ◌∙◌, sym, Some, None}
+use Rattle.std.proofs.Common.{◌≡◌, ℕ, true, false, List, [], ◌∷◌, refl, ap, Some, None}
 use Rattle.base_bytes.specs.declared.value.Value.{Value}
 use Rattle.base_bytes.specs.declared.value.Value.TheVariants as value
 use Rattle.fact_store.specs.declared.row.Row.{Row}
@@ -10,14 +10,14 @@ use Rattle.policy_ast.specs.declared.field.FieldType.{FieldType}
 use Rattle.policy_ast.specs.declared.item.Item.{Item}
 use Rattle.policy_ast.specs.declared.item.Item.TheVariants as item
 use Rattle.policy_ast.specs.declared.statement.Stmt.{Stmt}
-use Rattle.policy_meaning.specs.Applying.{Passes, Faults, applied, block_ended}
+use Rattle.policy_meaning.specs.Applying.{Passes, applied, block_ended}
 use Rattle.policy_meaning.specs.Environments.{Env, Setting}
 use Rattle.policy_meaning.specs.Expressions.{Calls, Meaning, decided, meaning_layer}
 use Rattle.policy_meaning.specs.Finish.{Emit}
 use Rattle.policy_meaning.specs.Functions.{entered}
-use Rattle.policy_meaning.specs.Outcomes.{Out, Done, Ends, Halt, Check, Fault, branch}
-use Rattle.policy_meaning.specs.Statements.{Goes, Run, block, ran}
-use Rattle.policy_meaning.specs.Values.{truth, truth_layer, inner_layer, unary_value, unwrapped}
+use Rattle.policy_meaning.specs.Outcomes.{Done, Ends, Check, Fault, branch}
+use Rattle.policy_meaning.specs.Statements.{Run, block}
+use Rattle.policy_meaning.specs.Values.{truth_layer, inner_layer, unary_value, unwrapped}
 use Rattle.policy_meaning.specs.declared.effect.Effect.{Effect}
 use Rattle.policy_meaning.specs.declared.ends.FaultKind.TheVariants as fault
 

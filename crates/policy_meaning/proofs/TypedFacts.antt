@@ -1,5 +1,5 @@
 -- What is known of typed facts and typed commands without opening what they are.
-use Rattle.std.proofs.Common.{◌≡◌, List, [], refl}
+use Rattle.std.proofs.Common.{List, [], refl}
 use Rattle.policy_ast.specs.declared.policy.PlacedItem.{PlacedItem}
 use Rattle.policy_meaning.specs.Typed.{AreEffectsOf, AreTyped}
 

@@ -1,5 +1,5 @@
 -- What operations give, computed on small values.
-use Rattle.std.proofs.Common.{◌≡◌, ℤ, pos, negsuc, ◌^◌, ◌-◌, List, [], ◌∷◌, codes, refl, ap, Some, None, true, false}
+use Rattle.std.proofs.Common.{◌≡◌, ℤ, pos, negsuc, ◌^◌, ◌-◌, refl, ap, Some, true}
 use Rattle.base_bytes.specs.declared.value.Value.{Value}
 use Rattle.base_bytes.specs.declared.value.Value.TheVariants as value
 use Rattle.fact_store.proofs.Sameness.{same_value_decides}

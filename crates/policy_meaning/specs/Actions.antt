@@ -1,13 +1,12 @@
 -- The meaning of an action. What the desk answers is data: a list of answers that are used up one by one. So the meaning reads both ways: over
 -- all answers it is how the action ends, and where the answers are used up it tells what the action publishes next.
-use Rattle.std.specs.Prelude.{◌≡◌, ℕ, ◌-◌, ◌==◌, if◌then◌else◌, Bool, true, false, List, [], ◌∷◌, ◌++◌, map, slice_get, Option, Some, None}
+use Rattle.std.specs.Prelude.{ℕ, ◌-◌, ◌==◌, if◌then◌else◌, Bool, true, false, List, [], ◌∷◌, ◌++◌, map, slice_get, Option, Some, None}
 use Rattle.base_bytes.specs.declared.value.Value.{Value}
 use Rattle.fact_store.specs.Matching.{selected}
 use Rattle.fact_store.specs.declared.row.Row.{Row}
 use Rattle.policy_ast.specs.declared.expr.Expr.{Expr}
 use Rattle.policy_ast.specs.declared.item.Item.{Item}
 use Rattle.policy_ast.specs.declared.item.Item.TheVariants as item
-use Rattle.policy_ast.specs.declared.statement.Arm.{Arm}
 use Rattle.policy_ast.specs.declared.statement.Else.{Else}
 use Rattle.policy_ast.specs.declared.statement.Else.TheVariants as else_stmt
 use Rattle.policy_ast.specs.declared.statement.Stmt.{Stmt, fold-Stmt}
@@ -56,7 +55,6 @@ pub data Deed (A : Type 0) : Type 0 where
   Stops : Stop → World → Deed A
 
 infixl 10 ◌>>>◌
-
 abbrev pub ◌>>>◌ : {A B : Type 0} → Deed A → (A → World → Deed B) → Deed B
 (Did x w) >>> next = next x w
 (Stops stop w) >>> next = Stops stop w

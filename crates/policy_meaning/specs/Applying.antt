@@ -1,5 +1,5 @@
 -- How a block ends, and what its writes make of the facts.
-use Rattle.std.specs.Prelude.{ℕ, List, [], ◌∷◌, Option, Some, None, Result, Ok, Err}
+use Rattle.std.specs.Prelude.{List, [], ◌∷◌, Option, Ok, Err}
 use Rattle.fact_store.specs.Writes.{Outcome, created, deleted, updated}
 use Rattle.fact_store.specs.declared.row.Row.{Row}
 use Rattle.fact_store.specs.declared.write_fault.WriteFault.{WriteFault}

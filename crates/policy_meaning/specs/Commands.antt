@@ -10,7 +10,7 @@ use Rattle.command.specs.declared.command.Command.TheVariants as command
 use Rattle.fact_store.specs.declared.row.Row.{Row}
 use Rattle.policy_ast.specs.declared.item.Item.{Item}
 use Rattle.policy_ast.specs.declared.policy.PlacedItem.{PlacedItem}
-use Rattle.policy_meaning.specs.Applying.{Ended, Passes, Checks, Faults, Sticks}
+use Rattle.policy_meaning.specs.Applying.{Ended, Passes, Checks}
 use Rattle.policy_meaning.specs.Blocks.{policy_block, recall_block}
 use Rattle.policy_meaning.specs.Values.{struct_parts}
 use Rattle.policy_meaning.specs.declared.call.Call.{Call}
@@ -44,8 +44,8 @@ payload_fields items number payload =
 abbrev pub call_by : List Item → List ℕ → Content → Option Call
 call_by items id content =
     option_and_then
-      (λ number. option_map (λ fields. record { command = number; fields = fields; author = content.author; id = id }) (payload_fields items number content.payload))
-      (command_number items content.name)
+    (λ number. option_map (λ fields. record { command = number; fields = fields; author = content.author; id = id }) (payload_fields items number content.payload))
+    (command_number items content.name)
 
 -- The call that a command is. It is none where the policy doesn't declare the name, or where the payload is no value of the fields.
 unfoldable pub call_of : List PlacedItem → Command → Option Call

@@ -1,11 +1,10 @@
 -- The meaning of expressions over the rows of facts. It is open in what calls of functions mean.
-use Rattle.std.specs.Prelude.{ℤ, ℕ, Bool, true, false, List, [], ◌∷◌, map, Option, Some, None, option_map, option_and_then}
+use Rattle.std.specs.Prelude.{ℕ, Bool, true, false, List, [], ◌∷◌, map, Option, option_map, option_and_then}
 use Rattle.std.specs.Option.{is_some}
 use Rattle.base_bytes.specs.declared.value.Value.{Value}
 use Rattle.base_bytes.specs.declared.value.Value.TheVariants as value
 use Rattle.fact_store.specs.Matching.{first_row, row_count}
 use Rattle.fact_store.specs.declared.row.Row.{Row}
-use Rattle.policy_ast.specs.declared.bind.Bind.{Bind}
 use Rattle.policy_ast.specs.declared.expr.ElseExpr.{ElseExpr}
 use Rattle.policy_ast.specs.declared.expr.ElseExpr.TheVariants as else_expr
 use Rattle.policy_ast.specs.declared.expr.Expr.{Expr, fold-Expr}
@@ -14,7 +13,7 @@ use Rattle.policy_ast.specs.declared.expr.ExprBlock.{ExprBlock}
 use Rattle.policy_ast.specs.declared.expr.Let.{Let}
 use Rattle.policy_ast.specs.declared.item.Item.{Item}
 use Rattle.policy_meaning.specs.Environments.{Env, Setting, bound, foreign_value, literal_value, name_value, with_value}
-use Rattle.policy_meaning.specs.Outcomes.{Out, Done, Ends, ◌>>=◌, all_in_order, branch, or_stuck}
+use Rattle.policy_meaning.specs.Outcomes.{Out, Done, ◌>>=◌, all_in_order, branch, or_stuck}
 use Rattle.policy_meaning.specs.Patterns.{row_value, wanted}
 use Rattle.policy_meaning.specs.Values.{arithmetic_value, comparison_value, counted, field_value, in_order, limit_of, optional_of, presence_value, truth, unary_value}
 use Rattle.policy_rules.specs.Heads.{struct_named}

@@ -1,5 +1,5 @@
 -- What a `finish` block lists: its writes and effects in order. Nothing is written before all are listed.
-use Rattle.std.specs.Prelude.{ℕ, zero, suc, List, [], ◌∷◌, ◌++◌, map, Option, Some, None, option_map, option_and_then}
+use Rattle.std.specs.Prelude.{ℕ, zero, suc, List, [], ◌∷◌, ◌++◌, map, Option, Some, option_map, option_and_then}
 use Rattle.base_bytes.specs.declared.value.Value.{Value}
 use Rattle.fact_store.specs.declared.row.Row.{Row}
 use Rattle.fact_store.specs.declared.wanted.Wanted.{Wanted}
@@ -46,7 +46,7 @@ fact_values head given = in_order (names_in head.values) given
 abbrev pub create_of : List Item → Name → List Value → Env → Option Change
 create_of items fact keys given =
     option_and_then (λ number. option_and_then (λ head. option_map (λ values. Create (record { fact = number; keys = keys; values = values })) (fact_values head given)) (fact_named items fact))
-      (number_named items fact)
+    (number_named items fact)
 
 abbrev pub update_of : List Item → Name → Wanted → Env → Option Change
 update_of items fact old given = option_and_then (λ head. option_map (Update old) (fact_values head given)) (fact_named items fact)

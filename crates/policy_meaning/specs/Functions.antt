@@ -1,5 +1,5 @@
 -- Calls of functions, and what the expressions and statements of a policy mean with them.
-use Rattle.std.specs.Prelude.{ℕ, zero, suc, List, [], Option, Some, None}
+use Rattle.std.specs.Prelude.{ℕ, zero, suc, List, Option, Some}
 use Rattle.base_bytes.specs.declared.value.Value.{Value}
 use Rattle.fact_store.specs.declared.row.Row.{Row}
 use Rattle.policy_ast.specs.declared.expr.Expr.{Expr}
@@ -7,13 +7,13 @@ use Rattle.policy_ast.specs.declared.finish.FinishStmt.{FinishStmt}
 use Rattle.policy_ast.specs.declared.item.Item.{Item}
 use Rattle.policy_ast.specs.declared.item.Item.TheVariants as item
 use Rattle.policy_ast.specs.declared.statement.Stmt.{Stmt}
-use Rattle.policy_meaning.specs.Environments.{Env, Setting, bound_parameters, no_setting}
+use Rattle.policy_meaning.specs.Environments.{Setting, bound_parameters, no_setting}
 use Rattle.policy_meaning.specs.Expressions.{Calls, Meaning, meaning}
 use Rattle.policy_meaning.specs.Finish.{Listing, all_listed, finish_called}
 use Rattle.policy_meaning.specs.Outcomes.{Out, Done, Ends, Stuck, ◌>>=◌, with_turn}
-use Rattle.policy_meaning.specs.Statements.{Flow, Goes, Returns, Finishes, Run, body_run}
+use Rattle.policy_meaning.specs.Statements.{Flow, Returns, Run, body_run}
 use Rattle.policy_rules.specs.Calls.{longest_chain}
-use Rattle.policy_rules.specs.Names.{Name, item_named}
+use Rattle.policy_rules.specs.Names.{item_named}
 use Rattle.policy_rules.specs.Types.{declared}
 
 -- The value that a body returns.

@@ -17,7 +17,6 @@ pub data Out (A : Type 0) : Type 0 where
   Ends : Halt → Out A
 
 infixl 10 ◌>>=◌
-
 -- One evaluation and then the next; where the first ends early, so does the whole.
 abbrev pub ◌>>=◌ : {A B : Type 0} → Out A → (A → ℕ → Out B) → Out B
 (Done x turns) >>= next = next x turns

@@ -6,12 +6,11 @@ use Rattle.fact_store.specs.declared.row.Row.{Row}
 use Rattle.fact_store.specs.declared.wanted.Wanted.{Wanted}
 use Rattle.policy_ast.specs.declared.expr.Expr.{Expr}
 use Rattle.policy_ast.specs.declared.item.Item.{Item}
-use Rattle.policy_ast.specs.declared.pattern.Free.{Free}
 use Rattle.policy_ast.specs.declared.pattern.Pattern.{Pattern}
 use Rattle.policy_meaning.specs.Environments.{Env, value_in}
-use Rattle.policy_meaning.specs.Outcomes.{Out, Done, Ends, ◌>>=◌, or_stuck}
+use Rattle.policy_meaning.specs.Outcomes.{Out, Done, ◌>>=◌, or_stuck}
 use Rattle.policy_rules.specs.Expressions.{value_part}
-use Rattle.policy_rules.specs.Heads.{FactHead, fact_named}
+use Rattle.policy_rules.specs.Heads.{fact_named}
 use Rattle.policy_rules.specs.Names.{Name, number_named}
 use Rattle.policy_rules.specs.Scopes.{names_in}
 
@@ -42,10 +41,10 @@ named_values (name ∷ names) (Some v ∷ values) = record { name = name; value 
 abbrev pub wanted_of : List Item → Name → List (Option Value) → List Name → List (Option Value) → Option Wanted
 wanted_of items fact keys value_names values =
     option_and_then
-      (λ number. option_map
-        (λ head. record { fact = number; keys = before_gap keys; values = map (value_in (named_values value_names values)) (names_in head.values) })
-        (fact_named items fact))
-      (number_named items fact)
+    (λ number. option_map
+    (λ head. record { fact = number; keys = before_gap keys; values = map (value_in (named_values value_names values)) (names_in head.values) })
+    (fact_named items fact))
+    (number_named items fact)
 
 -- The expressions of a pattern in written order, keys before values, and the rows that it then asks for.
 abbrev pub wanted_by : {E : Type 0} → List Item → Name → List (Option (E → ℕ → Out Value)) → List Name → List (Option (E → ℕ → Out Value)) → E → ℕ → Out Wanted

@@ -40,8 +40,8 @@ abbrev pub resolved_fields : List Item → List Named → List (Name × Resolvin
 resolved_fields items [] given = Some []
 resolved_fields items (field ∷ fields) given =
     option_and_then
-      (λ v. option_map (λ values. v ∷ values) (resolved_fields items fields given))
-      (option_and_then (λ resolve. resolve (value_type_of items field.ty)) (given_for field.name given))
+    (λ v. option_map (λ values. v ∷ values) (resolved_fields items fields given))
+    (option_and_then (λ resolve. resolve (value_type_of items field.ty)) (given_for field.name given))
 
 -- A struct that names each field once, of the struct that its own name means.
 abbrev pub resolved_struct : List Item → ℕ → Name → List (Name × Resolving) → Option Value

@@ -1,5 +1,5 @@
 -- Facts, commands, arguments and effects of the types that a policy declares.
-use Rattle.std.specs.Prelude.{◌≡◌, ℕ, Bool, true, false, ◌&&◌, IsTrue, List, [], ◌∷◌, map, slice_get, Option, Some, None, option_map, option_and_then, unwrap_or}
+use Rattle.std.specs.Prelude.{ℕ, Bool, false, ◌&&◌, IsTrue, List, map, slice_get, option_map, unwrap_or}
 use Rattle.std.specs.List.{list_all}
 use Rattle.base_bytes.specs.Values.{has_type, hold_in_order}
 use Rattle.base_bytes.specs.declared.shapes.Shapes.{Shapes}

@@ -1,5 +1,5 @@
 -- What each operation makes of the values of its operands.
-use Rattle.std.specs.Prelude.{ℤ, pos, negsuc, ◌+ℤ◌, ◌-ℤ◌, int_lt, int_le, ℕ, Bool, true, false, not, ◌==◌, nat_le, min, if◌then◌else◌, List, [], ◌∷◌, ◌++◌, slice_get, map, Option, Some, None, option_map, option_and_then, unwrap_or}
+use Rattle.std.specs.Prelude.{ℤ, pos, negsuc, ◌+ℤ◌, ◌-ℤ◌, int_lt, int_le, ℕ, Bool, not, ◌==◌, nat_le, min, if◌then◌else◌, List, [], ◌∷◌, slice_get, map, Option, Some, None, option_map, option_and_then, unwrap_or}
 use Rattle.std.specs.Int.{w64, saturate_signed}
 use Rattle.std.specs.Option.{is_some}
 use Rattle.std.specs.Str.{bytes_eq}
