@@ -1,6 +1,8 @@
 -- The call that a command of the graph is, and what it makes of the facts by its policy and recall blocks.
 use Rattle.std.specs.Prelude.{ℕ, if◌then◌else◌, List, length, Option, Some, None, option_map, option_and_then}
 use Rattle.base_bytes.specs.Reading.{ended}
+use Rattle.base_bytes.specs.declared.shapes.Shapes.{Shapes}
+use Rattle.base_bytes.specs.declared.ty.Ty.{Ty}
 use Rattle.base_bytes.specs.declared.ty.Ty.TheVariants as ty
 use Rattle.base_bytes.specs.declared.value.Value.{Value}
 use Rattle.base_bytes.specs.working.Decoding.{value_at}
@@ -36,10 +38,16 @@ content_of (command.Merge left right) = None
 abbrev pub command_number : List Item → Name → Option ℕ
 command_number items name = if names_item is_command items name then number_named items name else None
 
--- The fields whose spelling the payload is: the value of the struct of this number that is read of all of the bytes.
+-- The value of a type that is read of all of the bytes. It is the one whose spelling they are, where there is one.
+abbrev pub read_value : Shapes → Ty → List ℕ → Option Value
+read_value shapes t bytes = option_and_then ended (value_at shapes (length shapes.items) t bytes)
+
+abbrev pub fields_of : Value → Option (List Value)
+fields_of v = option_map (λ parts. parts.1) (struct_parts v)
+
+-- The fields of the struct of this number whose spelling the payload is.
 abbrev pub payload_fields : List Item → ℕ → List ℕ → Option (List Value)
-payload_fields items number payload =
-    option_and_then (λ v. option_map (λ parts. parts.1) (struct_parts v)) (option_and_then ended (value_at (shapes_of items) (length items) (ty.Struct number) payload))
+payload_fields items number payload = option_and_then fields_of (read_value (shapes_of items) (ty.Struct number) payload)
 
 abbrev pub call_by : List Item → List ℕ → Content → Option Call
 call_by items id content =
