@@ -1,5 +1,8 @@
 -- Lemmas that the proofs of this crate share, and those that crates above cite.
+pub mod FieldTypes
+pub mod Loops
 pub mod PayloadFacts
+pub mod Positions
 pub mod TypedFacts
 pub mod EvaluationRows
 pub mod ValueRows

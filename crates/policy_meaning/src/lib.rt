@@ -6,10 +6,13 @@ mod call;
 mod desk;
 mod effect;
 mod ends;
+mod names;
 mod runner;
+mod shaping;
 
 pub use call::Call;
 pub use desk::Desk;
 pub use effect::{Effect, Effects};
 pub use ends::{ActionEnd, FaultKind, Posted, Verdict, Why};
 pub use runner::Runner;
+pub use shaping::shapes;
