@@ -4,5 +4,6 @@ pub mod Loops
 pub mod PayloadFacts
 pub mod Positions
 pub mod TypedFacts
+pub mod CallFacts
 pub mod EvaluationRows
 pub mod ValueRows

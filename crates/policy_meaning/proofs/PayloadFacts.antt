@@ -1,6 +1,7 @@
 -- What is read of a payload is the value whose spelling it is, and nothing is read where it is the spelling of none.
 use Rattle.std.proofs.Common.{◌≡◌, ◌==◌, ℕ, Bool, true, false, List, [], length, Option, Some, None, refl, ap, sym, ◌∙◌, option_map}
-use Rattle.std.specs.Prelude.{IfNone, IfSome}
+use Rattle.std.specs.Prelude.{IfNone, IfOk, IfSome, Result, Ok, Err}
+use Rattle.base_bytes.specs.declared.no_memory.NoMemory.{NoMemory}
 use Rattle.std.specs.Option.{option_and_then}
 use Rattle.std.proofs.lemmas.Bool.{eqb-true}
 use Rattle.std.proofs.lemmas.List.{nil_from_length}
@@ -39,6 +40,11 @@ module _ (shapes : Shapes) (no_loop : NoneReachesItself shapes) (t : Ty) (bytes 
   decoded_is_read are (Some v) found none = sym (payload_read v found)
   decoded_is_read are None found none =
       sym (not_ended (value_at shapes (length shapes.items) t bytes) (λ v is. none v (is_payload shapes t (length shapes.items) bytes are v is)))
+
+  pub decoded_by : AreBytes bytes → (answer : Result (Option Value) NoMemory) → IfOk answer (λ o. IfSome o (λ v. IsPayload shapes t v bytes))
+      → IfOk answer (λ o. IfNone o ((v : Value) → IsPayload shapes t v bytes → ⊥)) → IfOk answer (λ o. o ≡ read_value shapes t bytes)
+  decoded_by are (Ok o) found none = decoded_is_read are o found none
+  decoded_by are (Err e) found none = tt
 
 -- The fields of a command whose payload is their spelling are read of it.
 pub fields_read : (items : List Item) → NoneReachesItself (shapes_of items) → (number : ℕ) (fields : List Value) (payload : List ℕ)

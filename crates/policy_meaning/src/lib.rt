@@ -3,6 +3,7 @@
 #![tactic(auto)]
 
 mod call;
+mod calls;
 mod desk;
 mod effect;
 mod ends;
@@ -11,6 +12,7 @@ mod runner;
 mod shaping;
 
 pub use call::Call;
+pub use calls::call_of;
 pub use desk::Desk;
 pub use effect::{Effect, Effects};
 pub use ends::{ActionEnd, FaultKind, Posted, Verdict, Why};

@@ -1,0 +1,131 @@
+//! The call that a command of the graph is.
+
+ghost use Rattle.std.specs.Prelude.{◌≡◌, ◌<◌, ◌^◌, length, IfOk, IsTrue, option_and_then};
+ghost use Rattle.base_bytes.specs.Reaching.{NoneReachesItself};
+ghost use Rattle.base_bytes.specs.declared.ty.Ty.TheVariants as ty;
+ghost use Rattle.command.specs.Wire.{IsInForm};
+ghost use Rattle.policy_meaning.specs.Commands.{call_by, call_of, command_number, fields_of, payload_fields, read_value};
+ghost use Rattle.policy_rules.specs.Shapes.{shapes_of};
+ghost use Rattle.policy_rules.specs.WellTyped.{items_of};
+
+use crate::Call;
+use crate::names::{item_named, number_named};
+use base_bytes::{Bytes, Id, NoMemory, Shapes, Text, Ty, Value, Values, decode_value};
+use command::{Command, id_of};
+use policy_ast::{Item, PlacedItem, Policy};
+use std::alloc::Global;
+
+/// The call that a command is by a policy of these shapes. It is None exactly where the policy declares no command of its name, or where its payload is
+/// no value of the fields; a merge is none.
+#[tactic(auto, unfolding(crate::specs::Commands::call_of))]
+pub fn call_of(
+    alloc: Global,
+    policy: &Policy,
+    shapes: &Shapes,
+    command: &Command,
+) -> Result<Option<Call>, NoMemory>
+    requires shapes { shapes.now ≡ shapes_of (items_of policy.now) }
+    requires finite { NoneReachesItself shapes.now }
+    requires formed { IsInForm command.now }
+    ensures { IfOk result (λ call. call ≡ call_of policy.now command.now) }
+{
+    match command {
+        Command::Init {
+            author,
+            name,
+            payload,
+            ..
+        } => call_by(alloc, policy.items(), shapes, id_of(command), name, payload, *author),
+        Command::Basic {
+            author,
+            name,
+            payload,
+            ..
+        } => call_by(alloc, policy.items(), shapes, id_of(command), name, payload, *author),
+        Command::Finalize {
+            author,
+            name,
+            payload,
+            ..
+        } => call_by(alloc, policy.items(), shapes, id_of(command), name, payload, *author),
+        Command::Merge { .. } => Ok(None),
+    }
+}
+
+fn call_by(
+    alloc: Global,
+    items: &[PlacedItem],
+    shapes: &Shapes,
+    id: Id,
+    name: &Text,
+    payload: &Bytes,
+    author: Id,
+) -> Result<Option<Call>, NoMemory>
+    requires few { length items.now < 2 ^ 32 }
+    requires shapes { shapes.now ≡ shapes_of (items_of items.now) }
+    requires finite { NoneReachesItself shapes.now }
+    ensures { IfOk result (λ call. call ≡ call_by (items_of items.now) id record { name = name.now; payload = payload.now; author = author }) }
+{
+    match command_number(items, name.as_slice()) {
+        Some(command) => match payload_fields(alloc, shapes, command, payload.as_slice())? {
+            Some(fields) => Ok(Some(Call {
+                command,
+                fields,
+                author,
+                id,
+            })),
+            None => Ok(None),
+        },
+        None => Ok(None),
+    }
+}
+
+/// The item number of the command of this name, where there is one.
+fn command_number(items: &[PlacedItem], name: &[u8]) -> Option<u32>
+    requires { length items.now < 2 ^ 32 }
+    ensures { result ≡ command_number (items_of items.now) name.now }
+{
+    match item_named(items, name) {
+        Some(Item::Command(_, _)) => match number_named(items, name) {
+            Some(number) => Some(number as u32),
+            None => None,
+        },
+        _ => None,
+    }
+}
+
+fn payload_fields(
+    alloc: Global,
+    shapes: &Shapes,
+    number: u32,
+    payload: &[u8],
+) -> Result<Option<Values>, NoMemory>
+    requires { NoneReachesItself shapes.now }
+    ensures { IfOk result (λ fields. fields ≡ option_and_then fields_of (read_value shapes.now (ty.Struct number) payload.now)) }
+{
+    match read_value(alloc, shapes, &Ty::Struct(number), payload)? {
+        Some(value) => Ok(fields_of(value)),
+        None => Ok(None),
+    }
+}
+
+fn fields_of(value: Value) -> Option<Values>
+    ensures { result ≡ fields_of value }
+{
+    match value {
+        Value::Struct(_, fields) => Some(fields),
+        _ => None,
+    }
+}
+
+fn read_value(
+    alloc: Global,
+    shapes: &Shapes,
+    t: &Ty,
+    bytes: &[u8],
+) -> Result<Option<Value>, NoMemory>
+    requires { NoneReachesItself shapes.now }
+    ensures { IfOk result (λ found. found ≡ read_value shapes.now t.now bytes.now) }
+{
+    decode_value(alloc, shapes, t, bytes)
+}
