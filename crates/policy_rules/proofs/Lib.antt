@@ -3,3 +3,6 @@ pub mod Maps
 pub mod Inferring
 pub mod Finding
 pub mod TypeLaws
+pub mod Folds
+pub mod Fits
+mod ExpressionRows
