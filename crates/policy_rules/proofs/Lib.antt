@@ -6,3 +6,4 @@ pub mod TypeLaws
 pub mod Folds
 pub mod Fits
 mod ExpressionRows
+mod PolicyRows
