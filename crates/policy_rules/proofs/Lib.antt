@@ -6,4 +6,5 @@ pub mod TypeLaws
 pub mod Folds
 pub mod Fits
 mod ExpressionRows
+mod ItemRows
 mod PolicyRows
