@@ -39,10 +39,10 @@ use Rattle.policy_rules.specs.working.Inference.{Found, all_types, block_type, c
 
 -- ---- taking answers apart
 
-same_some : {A : Type 0} {x y : A} → Some x ≡ Some y → x ≡ y
+pub same_some : {A : Type 0} {x y : A} → Some x ≡ Some y → x ≡ y
 same_some {x = x} {y = y} is = same_Some x y is
 
-only_if_then : {A P : Type 0} (b : Bool) (o : Option A) (y : A) → only_if b o ≡ Some y → (b ≡ true → o ≡ Some y → P) → P
+pub only_if_then : {A P : Type 0} (b : Bool) (o : Option A) (y : A) → only_if b o ≡ Some y → (b ≡ true → o ≡ Some y → P) → P
 only_if_then true o y is go = go refl is
 only_if_then false o y is go = absurd (cc)
 
@@ -50,7 +50,7 @@ bool_from : (l : NamedType-F NamedType) → is_bool_layer l ≡ true → roll-Na
 bool_from NamedType-F.Bool is = ty.rolls-Bool
 bool_from l is = absurd (false≢true is)
 
-bool_then : (t : NamedType) → is_bool t ≡ true → t ≡ ty.Bool
+pub bool_then : (t : NamedType) → is_bool t ≡ true → t ≡ ty.Bool
 bool_then t is = sym (roll-out-NamedType t) ∙ bool_from (out-NamedType t) is
 
 int_from : (l : NamedType-F NamedType) → is_int_layer l ≡ true → roll-NamedType l ≡ ty.Int
@@ -71,14 +71,14 @@ struct_from : (l : NamedType-F NamedType) (name : Name) → struct_layer l ≡ S
 struct_from (NamedType-F.Struct other) name is = ty.rolls-Struct other ∙ ap ty.Struct (same_some is)
 struct_from l name is = absurd (cc)
 
-struct_then : (t : NamedType) (name : Name) → struct_of t ≡ Some name → t ≡ ty.Struct name
+pub struct_then : (t : NamedType) (name : Name) → struct_of t ≡ Some name → t ≡ ty.Struct name
 struct_then t name is = sym (roll-out-NamedType t) ∙ struct_from (out-NamedType t) name is
 
-command_block_then : (b : Block) → is_command_block b ≡ true → b ≡ block.Command
+pub command_block_then : (b : Block) → is_command_block b ≡ true → b ≡ block.Command
 command_block_then block.Command is = refl
 command_block_then b is = absurd (false≢true is)
 
-action_block_then : (b : Block) → is_action_block b ≡ true → b ≡ block.Action
+pub action_block_then : (b : Block) → is_action_block b ≡ true → b ≡ block.Action
 action_block_then block.Action is = refl
 action_block_then b is = absurd (false≢true is)
 

@@ -5,6 +5,7 @@ pub mod Finding
 pub mod TypeLaws
 pub mod Folds
 pub mod Fits
+pub mod FinishLaws
 mod ExpressionRows
 mod ItemRows
 mod PolicyRows

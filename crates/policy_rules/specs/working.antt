@@ -1,2 +1,3 @@
 -- What the code is shown by, step by step.
 pub mod Inference
+pub mod Judging

@@ -204,3 +204,23 @@ module _ (items : List Item) (context : Context) where
   -- the type of an expression in a scope, where it has one
   abbrev pub inferred : Expr → Scope → Option NamedType
   inferred e scope = (found e).type_within scope
+
+  -- ---- parts of statements, by what is found of each expression
+
+  abbrev pub found_gap : Option Expr → Option Found
+  found_gap None = None
+  found_gap (Some e) = Some (found e)
+
+  abbrev pub found_free : Free Expr → Free Found
+  found_free f = record { name = f.name; value = found_gap f.value }
+
+  abbrev pub found_values : Option (List (Free Expr)) → Option (List (Free Found))
+  found_values None = None
+  found_values (Some fields) = Some (map found_free fields)
+
+  abbrev pub found_pattern : Pattern Expr → Pattern Found
+  found_pattern p = record { fact = p.fact; keys = map found_free p.keys; values = found_values p.values }
+
+  -- the types of a list of expressions, where each has one
+  abbrev pub types_within : List Expr → Scope → Option (List NamedType)
+  types_within es scope = all_types (map found es) scope
