@@ -6,6 +6,8 @@ pub mod TypeLaws
 pub mod Folds
 pub mod Fits
 pub mod FinishLaws
+pub mod StatementMaps
+pub mod StatementLaws
 mod ExpressionRows
 mod ItemRows
 mod PolicyRows
