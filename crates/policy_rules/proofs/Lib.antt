@@ -8,6 +8,7 @@ pub mod Fits
 pub mod FinishLaws
 pub mod StatementMaps
 pub mod StatementLaws
+pub mod ItemLaws
 mod ExpressionRows
 mod ItemRows
 mod PolicyRows
