@@ -9,6 +9,7 @@ pub mod FinishLaws
 pub mod StatementMaps
 pub mod StatementLaws
 pub mod ItemLaws
+pub mod PolicyLaws
 mod ExpressionRows
 mod ItemRows
 mod PolicyRows
