@@ -1,5 +1,5 @@
 -- Small expressions, and the types that they have or don't have. Each row is computed by the inference, which is the rules.
-use Rattle.std.proofs.Common.{◌≡◌, ℕ, ℤ, pos, Bool, true, false, List, [], ◌∷◌, codes, Option, Some, None, refl}
+use Rattle.std.proofs.Common.{◌≡◌, ℕ, pos, false, List, [], ◌∷◌, codes, Option, Some, None}
 use Rattle.policy_ast.specs.declared.bind.Bind.{Bind}
 use Rattle.policy_ast.specs.declared.expr.Comparison.TheVariants as comparison
 use Rattle.policy_ast.specs.declared.expr.Count.TheVariants as count
@@ -19,8 +19,6 @@ use Rattle.policy_rules.proofs.Folds.{tree_rules}
 use Rattle.policy_rules.specs.Items.{in_action, in_command}
 use Rattle.policy_rules.specs.Names.{Name}
 use Rattle.policy_rules.specs.Scopes.{Scope}
-use Rattle.policy_rules.specs.Types.{fits, joined}
-use Rattle.policy_rules.specs.declared.types.NamedType.{NamedType}
 use Rattle.policy_rules.specs.declared.types.NamedType.TheVariants as ty
 use Rattle.policy_rules.specs.working.Inference.{found}
 
@@ -33,7 +31,7 @@ items =
     item.Enum (codes "Role") (codes "Owner" ∷ codes "Member" ∷ [])
     ∷ item.Struct (codes "Pair") (record { name = codes "a"; field_type = field_type.Int } ∷ record { name = codes "b"; field_type = field_type.Bool } ∷ [])
     ∷ item.Fact false (codes "User") (record { name = codes "user"; field_type = field_type.Ident } ∷ record { name = codes "n"; field_type = field_type.Int } ∷ [])
-        (record { name = codes "role"; field_type = field_type.Enum (codes "Role") } ∷ [])
+    (record { name = codes "role"; field_type = field_type.Enum (codes "Role") } ∷ [])
     ∷ item.Function (codes "twice") (record { name = codes "n"; field_type = field_type.Int } ∷ []) field_type.Int []
     ∷ item.Let (codes "limit") (literal.Number (pos 3))
     ∷ item.Let (codes "Pair") literal.True

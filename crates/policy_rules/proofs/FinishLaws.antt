@@ -1,5 +1,5 @@
 -- Patterns and the statements of `finish`: what the rules say of them is what is found.
-use Rattle.std.proofs.Common.{◌≡◌, ℕ, Bool, true, false, not, ◌&&◌, List, [], ◌∷◌, map, Option, Some, None, refl, sym, ap, subst, ◌∙◌}
+use Rattle.std.proofs.Common.{◌≡◌, Bool, true, false, not, ◌&&◌, List, [], ◌∷◌, map, Option, Some, None, refl, sym, ap, subst, ◌∙◌}
 use Rattle.std.proofs.lemmas.Bool.{false≢true}
 use Rattle.std.proofs.lemmas.Option.{same_Some}
 use Rattle.std.specs.Option.{is_some}
@@ -16,7 +16,7 @@ use Rattle.policy_ast.specs.declared.pattern.Free.{Free}
 use Rattle.policy_ast.specs.declared.pattern.Pattern.{Pattern}
 use Rattle.policy_rules.proofs.Finding.{finds, struct_then}
 use Rattle.policy_rules.proofs.Folds.{fold-expr-Exists}
-use Rattle.policy_rules.proofs.Inferring.{bool_is, infers, infers_all, infers_pattern, struct_is}
+use Rattle.policy_rules.proofs.Inferring.{infers, infers_all, infers_pattern, struct_is}
 use Rattle.policy_rules.proofs.Maps.{map_free, map_gap, map_pattern, map_values}
 use Rattle.policy_rules.specs.Expressions as rules
 use Rattle.policy_rules.specs.Expressions.{HasType, HasTypeByForm, HaveTypes, IsPattern}
@@ -24,12 +24,11 @@ use Rattle.policy_rules.specs.FieldLists.{arguments_fit, in_any_order, in_declar
 use Rattle.policy_rules.specs.Finish as finish_rules
 use Rattle.policy_rules.specs.Finish.{AreFinishStmts, BindKeys, BindValues, IsFinishStmt, are_plain, binds_all_keys, is_plain}
 use Rattle.policy_rules.specs.Heads.{FactHead, fact_named, finish_function_named, is_effect, names_item}
-use Rattle.policy_rules.specs.Names.{Name}
 use Rattle.policy_rules.specs.Scopes.{Scope}
 use Rattle.policy_rules.specs.declared.context.Context.{Context}
 use Rattle.policy_rules.specs.declared.types.NamedType.{NamedType}
 use Rattle.policy_rules.specs.declared.types.NamedType.TheVariants as ty
-use Rattle.policy_rules.specs.working.Inference.{Found, all_types, found, found_free, found_gap, found_layer, found_pattern, found_values, inferred, pattern_of, struct_of, types_within}
+use Rattle.policy_rules.specs.working.Inference.{Found, found, found_free, found_gap, found_layer, found_pattern, found_values, inferred, pattern_of, struct_of, types_within}
 use Rattle.policy_rules.specs.working.Judging.{finish_stmt_is, finish_stmts_are, holds, is_pattern_within, keys_bound, values_bound}
 
 pub some_then : {A P : Type 0} (o : Option A) → is_some o ≡ true → ((x : A) → o ≡ Some x → P) → P
@@ -87,7 +86,7 @@ module _ (items : List Item) (context : Context) where
   types_found [] scope types is = rw (sym (same_Some _ _ is)) rules.no_types
   types_found (e ∷ es) scope types is =
       bind_then (inferred items context e scope) _ types is (λ t has rest. map_then (types_within items context es scope) _ types rest (λ more all same.
-        rw (sym same) (rules.more_types (finds items context e scope t has) (types_found es scope more all))))
+      rw (sym same) (rules.more_types (finds items context e scope t has) (types_found es scope more all))))
 
   -- ---- finish, from the rules
 
@@ -114,29 +113,29 @@ module _ (items : List Item) (context : Context) where
     keys_found : (fact : FactHead) (binds : List (Bind Expr)) → keys_bound items context fact binds scope ≡ true → BindKeys items context scope fact binds
     keys_found fact binds is = holds_then (types_within items context (map (λ b. b.value) binds) scope) _ is (λ types all rest.
         and_then (are_plain (map (λ b. b.value) binds)) (in_declared_order fact.keys (map (λ b. b.name) binds) types) rest (λ plain order.
-          finish_rules.keys types (types_found (map (λ b. b.value) binds) scope types all) plain order))
+        finish_rules.keys types (types_found (map (λ b. b.value) binds) scope types all) plain order))
 
     values_found : (fact : FactHead) (binds : List (Bind Expr)) → values_bound items context fact binds scope ≡ true → BindValues items context scope fact binds
     values_found fact binds is = holds_then (types_within items context (map (λ b. b.value) binds) scope) _ is (λ types all rest.
         and_then (are_plain (map (λ b. b.value) binds)) (in_any_order fact.values (map (λ b. b.name) binds) types) rest (λ plain order.
-          finish_rules.values types (types_found (map (λ b. b.value) binds) scope types all) plain order))
+        finish_rules.values types (types_found (map (λ b. b.value) binds) scope types all) plain order))
 
     finish_stmt_found : (s : FinishStmt) → finish_stmt_is items context s scope ≡ true → IsFinishStmt items context scope s
     finish_stmt_found (finish.Create name key_binds value_binds) is = holds_then (fact_named items name) _ is (λ fact named rest.
         and_then (keys_bound items context fact key_binds scope) (values_bound items context fact value_binds scope) rest (λ ks vs.
-          finish_rules.create fact named (keys_found fact key_binds ks) (values_found fact value_binds vs)))
+        finish_rules.create fact named (keys_found fact key_binds ks) (values_found fact value_binds vs)))
     finish_stmt_found (finish.Update p to) is = holds_then (fact_named items p.fact) _ is (λ fact named rest.
         and_then (not fact.is_immutable) (is_pattern_within items context p scope && (binds_all_keys fact p && values_bound items context fact to scope)) rest (λ mutable more.
-          and_then (is_pattern_within items context p scope) (binds_all_keys fact p && values_bound items context fact to scope) more (λ pattern last.
-            and_then (binds_all_keys fact p) (values_bound items context fact to scope) last (λ all vs.
-              finish_rules.update fact named (not_then fact.is_immutable mutable) (pattern_finds p scope pattern) all (values_found fact to vs)))))
+        and_then (is_pattern_within items context p scope) (binds_all_keys fact p && values_bound items context fact to scope) more (λ pattern last.
+        and_then (binds_all_keys fact p) (values_bound items context fact to scope) last (λ all vs.
+        finish_rules.update fact named (not_then fact.is_immutable mutable) (pattern_finds p scope pattern) all (values_found fact to vs)))))
     finish_stmt_found (finish.Delete name key_binds) is = holds_then (fact_named items name) _ is (λ fact named rest. finish_rules.delete fact named (keys_found fact key_binds rest))
     finish_stmt_found (finish.Emit e) is = holds_then _ (λ effect. is_plain e && names_item is_effect items effect) is (λ effect found_it rest.
         bind_then (inferred items context e scope) struct_of effect found_it (λ t has of. and_then (is_plain e) (names_item is_effect items effect) rest (λ plain names.
-          finish_rules.emit effect (finds items context e scope (ty.Struct effect) (has ∙ ap Some (struct_then t effect of))) plain names)))
+        finish_rules.emit effect (finds items context e scope (ty.Struct effect) (has ∙ ap Some (struct_then t effect of))) plain names)))
     finish_stmt_found (finish.Call name arguments) is = holds_then (finish_function_named items name) _ is (λ parameters named rest.
         holds_then (types_within items context arguments scope) _ rest (λ types all more. and_then (are_plain arguments) (arguments_fit types parameters) more (λ plain fit.
-          finish_rules.call types parameters named (types_found arguments scope types all) plain fit)))
+        finish_rules.call types parameters named (types_found arguments scope types all) plain fit)))
 
     pub finish_found : (ss : List FinishStmt) → finish_stmts_are items context ss scope ≡ true → AreFinishStmts items context scope ss
     finish_found [] is = finish_rules.no_finish_stmts

@@ -1,5 +1,5 @@
 -- Which types fit, form by form; and two types, of which one fits the other.
-use Rattle.std.proofs.Common.{◌≡◌, Bool, true, false, Option, Some, None, refl, ap}
+use Rattle.std.proofs.Common.{◌≡◌, Bool, true, false, Some, None, refl, ap}
 use Rattle.policy_rules.proofs.Folds.{fold-named_type-Int, fold-named_type-Bool, fold-named_type-Str, fold-named_type-Raw, fold-named_type-Ident, fold-named_type-Enum, fold-named_type-Struct, fold-named_type-Optional, fold-named_type-Never}
 use Rattle.policy_rules.specs.Names.{Name}
 use Rattle.policy_rules.specs.Types.{fits, fits_layer, joined}

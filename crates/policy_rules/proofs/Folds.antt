@@ -1,15 +1,15 @@
 -- What folds and layers are at trees that are written out: one equation a form. Rows of tests compute by them.
-use Rattle.std.proofs.Common.{◌≡◌, ℕ, ℤ, List, Option, sym, ap, ◌∙◌}
-use Rattle.policy_ast.specs.declared.expr.Expr.{Expr, fold-Expr, fold-roll-Expr, map-Expr, out-Expr}
+use Rattle.std.proofs.Common.{◌≡◌, ℤ, List, sym, ap, ◌∙◌}
+use Rattle.policy_ast.specs.declared.expr.Expr.{Expr, fold-Expr, fold-roll-Expr, map-Expr}
 use Rattle.policy_ast.specs.declared.expr.Expr.TheOpen.{Expr-F}
 use Rattle.policy_ast.specs.declared.expr.Expr.TheVariants as expr
-use Rattle.policy_ast.specs.declared.statement.Stmt.{Stmt, fold-Stmt, fold-roll-Stmt, map-Stmt, out-Stmt}
+use Rattle.policy_ast.specs.declared.statement.Stmt.{Stmt, fold-Stmt, fold-roll-Stmt, map-Stmt}
 use Rattle.policy_ast.specs.declared.statement.Stmt.TheOpen.{Stmt-F}
 use Rattle.policy_ast.specs.declared.statement.Stmt.TheVariants as stmt
-use Rattle.policy_ast.specs.declared.field.FieldType.{FieldType, fold-FieldType, fold-roll-FieldType, map-FieldType, out-FieldType}
+use Rattle.policy_ast.specs.declared.field.FieldType.{FieldType, fold-FieldType, fold-roll-FieldType, map-FieldType}
 use Rattle.policy_ast.specs.declared.field.FieldType.TheOpen.{FieldType-F}
 use Rattle.policy_ast.specs.declared.field.FieldType.TheVariants as field_type
-use Rattle.policy_rules.specs.declared.types.NamedType.{NamedType, fold-NamedType, fold-roll-NamedType, map-NamedType, out-NamedType}
+use Rattle.policy_rules.specs.declared.types.NamedType.{NamedType, fold-NamedType, fold-roll-NamedType, map-NamedType}
 use Rattle.policy_rules.specs.declared.types.NamedType.TheOpen.{NamedType-F}
 use Rattle.policy_rules.specs.declared.types.NamedType.TheVariants as named_type
 use Rattle.policy_ast.specs.declared.expr.Arithmetic.{Arithmetic}

@@ -1,5 +1,5 @@
 -- Items: what the rules say of them is what is found.
-use Rattle.std.proofs.Common.{◌≡◌, ℕ, Bool, true, false, ◌&&◌, List, [], ◌∷◌, Option, Some, None, refl}
+use Rattle.std.proofs.Common.{◌≡◌, Bool, true, ◌&&◌, List, [], ◌∷◌, refl}
 use Rattle.base_bytes.proofs.Bools.{and_then}
 use Rattle.policy_ast.specs.declared.item.Item.{Item}
 use Rattle.policy_ast.specs.declared.item.Item.TheVariants as item
@@ -73,21 +73,21 @@ module _ (items : List Item) where
   kind_found (item.Fact is_immutable name keys values) is = rules.fact is
   kind_found (item.Command name sections) is =
       and_then (has_its_sections sections) (are_attributes (attributes_of sections) && sections_are items name sections) is (λ has rest.
-        and_then (are_attributes (attributes_of sections)) (sections_are items name sections) rest (λ are last. rules.command has are (sections_found name sections last)))
+      and_then (are_attributes (attributes_of sections)) (sections_are items name sections) rest (λ are last. rules.command has are (sections_found name sections last)))
   kind_found (item.Function name parameters result body) is =
       let inner : Bool = body_is items (in_function (written_type result)) body (declared parameters) in
       and_then (are_parameters items parameters) (type_exists items result && (inner && ends_in_return body)) is (λ are rest.
-        and_then (type_exists items result) (inner && ends_in_return body) rest (λ exists more. and_then inner (ends_in_return body) more (λ block returns.
-          rules.function are exists (body_found items (in_function (written_type result)) body (declared parameters) block) returns)))
+      and_then (type_exists items result) (inner && ends_in_return body) rest (λ exists more. and_then inner (ends_in_return body) more (λ block returns.
+      rules.function are exists (body_found items (in_function (written_type result)) body (declared parameters) block) returns)))
   kind_found (item.FinishFunction name parameters body) is =
       and_then (are_parameters items parameters) (finish_stmts_are items in_finish_function body (declared parameters)) is (λ are rest.
-        rules.finish_function are (finish_found items in_finish_function (declared parameters) body rest))
+      rules.finish_function are (finish_found items in_finish_function (declared parameters) body rest))
   kind_found (item.Action name parameters body) is =
       and_then (are_parameters items parameters) (body_is items in_action body (declared parameters)) is (λ are rest.
-        rules.action are (body_found items in_action body (declared parameters) rest))
+      rules.action are (body_found items in_action body (declared parameters) rest))
 
   pub item_found : (earlier : List Name) (i : Item) → item_is items earlier i ≡ true → IsItem items earlier i
   item_found earlier i is =
       and_then (is_free_name earlier (name_of i)) (is_of_kind items i && (may_nest items i && may_chain items i)) is (λ free rest.
-        and_then (is_of_kind items i) (may_nest items i && may_chain items i) rest (λ kind more. and_then (may_nest items i) (may_chain items i) more (λ nests chains.
-          record { free = free; of_kind = kind_found i kind; nests = nests; chains = chains })))
+      and_then (is_of_kind items i) (may_nest items i && may_chain items i) rest (λ kind more. and_then (may_nest items i) (may_chain items i) more (λ nests chains.
+      record { free = free; of_kind = kind_found i kind; nests = nests; chains = chains })))

@@ -1,5 +1,5 @@
 -- What the tests on the parts of items say of small ones.
-use Rattle.std.proofs.Common.{◌≡◌, ℕ, pos, Bool, true, false, List, [], ◌∷◌, codes, Option, Some, None, refl}
+use Rattle.std.proofs.Common.{◌≡◌, pos, true, false, List, [], ◌∷◌, codes, Some, None, refl}
 use Rattle.policy_ast.specs.declared.expr.Expr.TheVariants as expr
 use Rattle.policy_ast.specs.declared.field.FieldType.TheVariants as field_type
 use Rattle.policy_ast.specs.declared.item.Attribute.{Attribute}
@@ -14,8 +14,8 @@ use Rattle.policy_ast.specs.declared.pattern.PatternLiteral.TheVariants as patte
 use Rattle.policy_ast.specs.declared.statement.Stmt.TheVariants as stmt
 use Rattle.policy_rules.proofs.Fits.{fitting_rules}
 use Rattle.policy_rules.proofs.Folds.{tree_rules}
-use Rattle.policy_rules.specs.Calls.{chain_within, may_chain}
-use Rattle.policy_rules.specs.Commands.{CommandKind, Init, Basic, Finalize, are_attributes, command_kind, has_its_sections}
+use Rattle.policy_rules.specs.Calls.{may_chain}
+use Rattle.policy_rules.specs.Commands.{Basic, are_attributes, command_kind, has_its_sections}
 use Rattle.policy_rules.specs.Coverage.{are_arm_patterns}
 use Rattle.policy_rules.specs.Items.{are_fact_fields, are_variants, is_free_name}
 use Rattle.policy_rules.specs.Names.{Name}

@@ -1,5 +1,5 @@
 -- A whole small policy is well typed, by the rules alone.
-use Rattle.std.proofs.Common.{◌≡◌, ℕ, zero, suc, pos, Bool, true, false, List, [], ◌∷◌, codes, map, take, slice_get, Option, Some, None, refl, sym, subst}
+use Rattle.std.proofs.Common.{◌≡◌, ℕ, zero, suc, pos, true, false, List, [], ◌∷◌, codes, Some, refl, subst}
 use Rattle.std.proofs.lemmas.Option.{same_Some}
 use Rattle.policy_ast.specs.declared.bind.Bind.{Bind}
 use Rattle.policy_ast.specs.declared.expr.Comparison.TheVariants as comparison
@@ -12,7 +12,6 @@ use Rattle.policy_ast.specs.declared.finish.FinishStmt.{FinishStmt}
 use Rattle.policy_ast.specs.declared.finish.FinishStmt.TheVariants as finish
 use Rattle.policy_ast.specs.declared.item.Item.{Item}
 use Rattle.policy_ast.specs.declared.item.Item.TheVariants as item
-use Rattle.policy_ast.specs.declared.item.Section.{Section}
 use Rattle.policy_ast.specs.declared.item.Section.TheVariants as section
 use Rattle.policy_ast.specs.declared.literal.Literal.TheVariants as literal
 use Rattle.policy_ast.specs.declared.statement.Stmt.{Stmt}
@@ -27,7 +26,7 @@ use Rattle.policy_rules.specs.Finish.{AreFinishStmts}
 use Rattle.policy_rules.specs.Heads.{is_command, names_item}
 use Rattle.policy_rules.specs.Items as item_rules
 use Rattle.policy_rules.specs.Items.{IsItem, in_action, in_command}
-use Rattle.policy_rules.specs.Names.{Name, names_of}
+use Rattle.policy_rules.specs.Names.{Name}
 use Rattle.policy_rules.specs.Scopes.{Scope}
 use Rattle.policy_rules.specs.Statements as statement_rules
 use Rattle.policy_rules.specs.Statements.{IsBlock, IsStmt, within_finish}
@@ -115,9 +114,9 @@ start_is = record {
   free = refl;
   of_kind = item_rules.command refl refl (item_rules.more_sections item_rules.attributes_section (item_rules.more_sections (item_rules.fields_section refl)
       (item_rules.more_sections item_rules.seal_section (item_rules.more_sections item_rules.open_section (item_rules.more_sections
-        (item_rules.policy_section (statement_rules.more_stmts [] (statement_rules.stmt (rw (stmt.outs-Finish []) (statement_rules.finishes refl finish_rules.no_finish_stmts))) refl
-          statement_rules.no_stmts))
-        item_rules.no_sections)))));
+      (item_rules.policy_section (statement_rules.more_stmts [] (statement_rules.stmt (rw (stmt.outs-Finish []) (statement_rules.finishes refl finish_rules.no_finish_stmts))) refl
+      statement_rules.no_stmts))
+      item_rules.no_sections)))));
   nests = refl;
   chains = simp row_rules;
 }
@@ -134,11 +133,11 @@ one_typed context e scope t is = rules.more_types (typed context e scope t is) r
 writes_are : AreFinishStmts items (within_finish in_put) behind_who writes
 writes_are = finish_rules.more_finish_stmts
     (finish_rules.create (record { is_immutable = false; keys = record { name = n; ty = ty.Int } ∷ []; values = record { name = codes "by"; ty = ty.Ident } ∷ [] }) (simp row_rules)
-      (finish_rules.keys (ty.Int ∷ []) (one_typed (within_finish in_put) this_n behind_who ty.Int (simp row_rules)) (simp row_rules) (simp row_rules))
-      (finish_rules.values (ty.Ident ∷ []) (one_typed (within_finish in_put) who behind_who ty.Ident (simp row_rules)) (simp row_rules) (simp row_rules)))
+    (finish_rules.keys (ty.Int ∷ []) (one_typed (within_finish in_put) this_n behind_who ty.Int (simp row_rules)) (simp row_rules) (simp row_rules))
+    (finish_rules.values (ty.Ident ∷ []) (one_typed (within_finish in_put) who behind_who ty.Ident (simp row_rules)) (simp row_rules) (simp row_rules)))
     (finish_rules.more_finish_stmts
-      (finish_rules.emit (codes "Added") (typed (within_finish in_put) (expr.Struct (codes "Added") (bind n this_n ∷ [])) behind_who (ty.Struct (codes "Added")) (simp row_rules)) (simp row_rules) refl)
-      finish_rules.no_finish_stmts)
+    (finish_rules.emit (codes "Added") (typed (within_finish in_put) (expr.Struct (codes "Added") (bind n this_n ∷ [])) behind_who (ty.Struct (codes "Added")) (simp row_rules)) (simp row_rules) refl)
+    finish_rules.no_finish_stmts)
 
 checked : IsStmt items in_put [] (stmt.Check is_positive) []
 checked = statement_rules.stmt (rw (stmt.outs-Check is_positive) (statement_rules.checks (typed in_put is_positive [] ty.Bool (simp row_rules))))
@@ -152,7 +151,7 @@ finished = statement_rules.stmt (rw (stmt.outs-Finish writes) (statement_rules.f
 put_block : IsBlock items in_put [] put_body
 put_block = statement_rules.more_stmts [] checked (rw (stmt.outs-Check is_positive) refl)
     (statement_rules.more_stmts behind_who introduced (rw (stmt.outs-Let (record { name = codes "who"; value = author })) refl)
-      (statement_rules.more_stmts behind_who finished refl statement_rules.no_stmts))
+    (statement_rules.more_stmts behind_who finished refl statement_rules.no_stmts))
 
 put_is : IsItem items (codes "Item" ∷ codes "Added" ∷ codes "Start" ∷ []) put_item
 put_is = record {

@@ -1,10 +1,9 @@
 -- Statements: what the rules say of them is what is found.
-use Rattle.std.proofs.Common.{◌≡◌, ℕ, Bool, true, false, not, ◌&&◌, List, [], ◌∷◌, map, Option, Some, None, refl, sym, ap, subst, ◌∙◌}
+use Rattle.std.proofs.Common.{◌≡◌, Bool, true, not, ◌&&◌, List, [], ◌∷◌, map, Option, Some, None, refl, sym, ap, subst, ◌∙◌}
 use Rattle.std.specs.Option.{is_some}
 use Rattle.base_bytes.proofs.Bools.{and_then}
 use Rattle.base_bytes.proofs.Formats.{bind_then}
 use Rattle.policy_ast.specs.declared.expr.Expr.{Expr}
-use Rattle.policy_ast.specs.declared.expr.Let.{Let}
 use Rattle.policy_ast.specs.declared.item.Item.{Item}
 use Rattle.policy_ast.specs.declared.pattern.Pattern.{Pattern}
 use Rattle.policy_ast.specs.declared.statement.Arm.{Arm}
@@ -26,10 +25,9 @@ use Rattle.policy_rules.specs.Statements as rules
 use Rattle.policy_rules.specs.Statements.{AreArms, IsBlock, IsElse, IsStmt, IsStmtByForm, is_last_layer, may_precede, within_finish}
 use Rattle.policy_rules.specs.Types.{fits}
 use Rattle.policy_rules.specs.declared.context.Context.{Context}
-use Rattle.policy_rules.specs.declared.types.NamedType.{NamedType}
 use Rattle.policy_rules.specs.declared.types.NamedType.TheVariants as ty
 use Rattle.policy_rules.specs.working.Inference.{inferred, is_action_block, is_bool, is_command_block, struct_of}
-use Rattle.policy_rules.specs.working.Judging.{Judged, arms_are, behind_layer, block_is, else_is, finish_stmts_are, holds, is_bool_within, is_pattern_within, judged, judged_layer, precedes}
+use Rattle.policy_rules.specs.working.Judging.{Judged, arms_are, behind_layer, block_is, else_is, finish_stmts_are, is_bool_within, is_pattern_within, judged, judged_layer, precedes}
 
 module _ (items : List Item) (context : Context) where
   abbrev judge : Stmt → Judged
@@ -92,7 +90,7 @@ module _ (items : List Item) (context : Context) where
   block_found [] scope is = rules.no_stmts
   block_found (c ∷ cs) scope is = holds_then ((judge c.0).behind scope) _ is (λ after has rest.
       and_then (precedes (judge c.0).is_last (map judge (map tree cs))) (block_is (map judge (map tree cs)) after) rest (λ may more.
-        rules.more_stmts after (c.1 scope after has) (sym (precede_same c.0 (map tree cs)) ∙ may) (block_found cs after more)))
+      rules.more_stmts after (c.1 scope after has) (sym (precede_same c.0 (map tree cs)) ∙ may) (block_found cs after more)))
 
   else_found : (o : Option (Else Child)) (scope : Scope) → else_is (map_else judge (map_else tree o)) scope ≡ true → IsElse items context scope (map_else tree o)
   else_found None scope is = rules.no_else
@@ -115,16 +113,16 @@ module _ (items : List Item) (context : Context) where
       let body : Bool = block_is (map judge (map tree x.then)) scope in
       let otherwise : Bool = else_is (map_else judge (map_else tree x.otherwise)) scope in
       only_if_then (is_bool_within items context x.head scope && (body && otherwise)) (Some scope) after is (λ both same. rw (sym (same_some same))
-        (and_then (is_bool_within items context x.head scope) (body && otherwise) both (λ head rest. and_then body otherwise rest (λ then last.
-          rules.chooses (bool_found x.head scope head) (block_found x.then scope then) (else_found x.otherwise scope last)))))
+      (and_then (is_bool_within items context x.head scope) (body && otherwise) both (λ head rest. and_then body otherwise rest (λ then last.
+      rules.chooses (bool_found x.head scope head) (block_found x.then scope then) (else_found x.otherwise scope last)))))
 
   match_found : (e : Expr) (arms : List (Arm Child)) → FindsLayer (Stmt-F.Match e arms)
   match_found e arms scope after is =
       let plain_arms : List (Arm Stmt) = map (map_arm tree) arms in
       bind_then (inferred items context e scope) _ after is (λ t has rest.
-        only_if_then (are_arm_patterns items t (map (λ a. a.pattern) (map (map_arm judge) plain_arms)) && arms_are (map (map_arm judge) plain_arms) scope) (Some scope) after rest (λ both same.
-          rw (sym (same_some same)) (and_then (are_arm_patterns items t (map (λ a. a.pattern) (map (map_arm judge) plain_arms))) (arms_are (map (map_arm judge) plain_arms) scope) both
-            (λ patterns bodies. rules.matches t (finds items context e scope t has) (ap (are_arm_patterns items t) (sym (arm_patterns judge plain_arms)) ∙ patterns) (arms_found arms scope bodies)))))
+      only_if_then (are_arm_patterns items t (map (λ a. a.pattern) (map (map_arm judge) plain_arms)) && arms_are (map (map_arm judge) plain_arms) scope) (Some scope) after rest (λ both same.
+      rw (sym (same_some same)) (and_then (are_arm_patterns items t (map (λ a. a.pattern) (map (map_arm judge) plain_arms))) (arms_are (map (map_arm judge) plain_arms) scope) both
+      (λ patterns bodies. rules.matches t (finds items context e scope t has) (ap (are_arm_patterns items t) (sym (arm_patterns judge plain_arms)) ∙ patterns) (arms_found arms scope bodies)))))
 
   map_found : (p : Pattern Expr) (name : Name) (body : List Child) → FindsLayer (Stmt-F.Map p name body)
   map_found p name body scope after is =
@@ -132,28 +130,28 @@ module _ (items : List Item) (context : Context) where
       let may : Bool = may_introduce items context scope name in
       let block : Bool = block_is (map judge (map tree body)) (with_name scope name (ty.Struct p.fact)) in
       only_if_then (is_action_block context.block && (pattern && (may && block))) (Some scope) after is (λ all same. rw (sym (same_some same))
-        (and_then (is_action_block context.block) (pattern && (may && block)) all (λ at rest. and_then pattern (may && block) rest (λ matched more. and_then may block more (λ new inner.
-          rules.maps (action_block_then context.block at) (pattern_finds items context p scope matched) new (block_found body (with_name scope name (ty.Struct p.fact)) inner))))))
+      (and_then (is_action_block context.block) (pattern && (may && block)) all (λ at rest. and_then pattern (may && block) rest (λ matched more. and_then may block more (λ new inner.
+      rules.maps (action_block_then context.block at) (pattern_finds items context p scope matched) new (block_found body (with_name scope name (ty.Struct p.fact)) inner))))))
 
   publish_found : (e : Expr) → FindsLayer (Stmt-F.Publish e)
   publish_found e scope after is =
       bind_then _ (λ command. _) after is (λ command both rest. bind_then (inferred items context e scope) struct_of command both (λ t has of.
-        only_if_then (is_action_block context.block && names_item is_command items command) (Some scope) after rest (λ all same. rw (sym (same_some same))
-          (and_then (is_action_block context.block) (names_item is_command items command) all (λ at names.
-            rules.publishes command (action_block_then context.block at) (finds items context e scope (ty.Struct command) (has ∙ ap Some (struct_then t command of))) names)))))
+      only_if_then (is_action_block context.block && names_item is_command items command) (Some scope) after rest (λ all same. rw (sym (same_some same))
+      (and_then (is_action_block context.block) (names_item is_command items command) all (λ at names.
+      rules.publishes command (action_block_then context.block at) (finds items context e scope (ty.Struct command) (has ∙ ap Some (struct_then t command of))) names)))))
 
   finds_layer : (layer : Stmt-F Child) → FindsLayer layer
   finds_layer (Stmt-F.Let l) scope after is = bind_then (inferred items context l.value scope) _ after is (λ t has rest.
       only_if_then (may_introduce items context scope l.name) (Some (with_name scope l.name t)) after rest (λ may same.
-        rw (sym (same_some same)) (rules.introduces t (finds items context l.value scope t has) may)))
+      rw (sym (same_some same)) (rules.introduces t (finds items context l.value scope t has) may)))
   finds_layer (Stmt-F.Check e) scope after is = only_if_then (is_bool_within items context e scope) (Some scope) after is (λ holds same.
       rw (sym (same_some same)) (rules.checks (bool_found e scope holds)))
   finds_layer (Stmt-F.If x) scope after is = choice_found x scope after is
   finds_layer (Stmt-F.Match e arms) scope after is = match_found e arms scope after is
   finds_layer (Stmt-F.Finish statements) scope after is =
       only_if_then (is_command_block context.block && finish_stmts_are items (within_finish context) statements scope) (Some scope) after is (λ both same. rw (sym (same_some same))
-        (and_then (is_command_block context.block) (finish_stmts_are items (within_finish context) statements scope) both (λ at rest.
-          rules.finishes (command_block_then context.block at) (finish_found items (within_finish context) scope statements rest))))
+      (and_then (is_command_block context.block) (finish_stmts_are items (within_finish context) statements scope) both (λ at rest.
+      rules.finishes (command_block_then context.block at) (finish_found items (within_finish context) scope statements rest))))
   finds_layer (Stmt-F.Map p name body) scope after is = map_found p name body scope after is
   finds_layer (Stmt-F.Publish e) scope after is = publish_found e scope after is
   finds_layer (Stmt-F.Return e) scope after is = bind_then context.result _ after is (λ result at rest. bind_then (inferred items context e scope) _ after rest (λ t has more.
@@ -170,4 +168,4 @@ module _ (items : List Item) (context : Context) where
   body_found [] scope is = rules.no_stmts
   body_found (s ∷ more) scope is = holds_then ((judge s).behind scope) _ is (λ after has rest.
       and_then (precedes (judge s).is_last (map judge more)) (block_is (map judge more) after) rest (λ may others.
-        rules.more_stmts after (judgement_found s scope after has) (sym (precede_same s more) ∙ may) (body_found more after others)))
+      rules.more_stmts after (judgement_found s scope after has) (sym (precede_same s more) ∙ may) (body_found more after others)))

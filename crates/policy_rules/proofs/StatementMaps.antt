@@ -1,7 +1,6 @@
 -- What a map over one layer of a statement does to the lists and the `else` inside it.
-use Rattle.std.proofs.Common.{◌≡◌, List, [], ◌∷◌, map, Bool, Option, Some, None, refl, ap}
+use Rattle.std.proofs.Common.{◌≡◌, List, [], ◌∷◌, map, Option, None, refl, ap}
 use Rattle.policy_ast.specs.declared.expr.Expr.TheVariants as expr
-use Rattle.policy_ast.specs.declared.pattern.ArmPattern.{ArmPattern}
 use Rattle.policy_ast.specs.declared.statement.Arm.{Arm}
 use Rattle.policy_ast.specs.declared.statement.Else.{Else}
 use Rattle.policy_ast.specs.declared.statement.Stmt.{map-Stmt}

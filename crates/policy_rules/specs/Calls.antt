@@ -1,5 +1,5 @@
 -- Chains of calls: which names an item calls, and how many calls follow one another.
-use Rattle.std.specs.Prelude.{ℕ, zero, suc, Bool, true, false, ◌&&◌, List, [], ◌∷◌, Option, Some, None, unwrap_or}
+use Rattle.std.specs.Prelude.{ℕ, zero, suc, Bool, true, false, ◌&&◌, List, Option, Some, None, unwrap_or}
 use Rattle.std.specs.List.{list_all}
 use Rattle.policy_ast.specs.declared.bind.Bind.{Bind}
 use Rattle.policy_ast.specs.declared.expr.ElseExpr.{ElseExpr}

@@ -1,5 +1,5 @@
 -- The sections and the attributes of a command, and its kind.
-use Rattle.std.specs.Prelude.{ℤ, pos, negsuc, ℕ, ◌^◌, Bool, true, false, not, ◌&&◌, ◌||◌, ◌==◌, nat_le, nat_lt, List, [], ◌∷◌, ◌++◌, codes, count_by, filter, length}
+use Rattle.std.specs.Prelude.{pos, ℕ, ◌^◌, Bool, true, false, not, ◌&&◌, ◌||◌, ◌==◌, nat_le, nat_lt, List, [], ◌∷◌, ◌++◌, codes, count_by, filter, length}
 use Rattle.std.specs.List.{list_all}
 use Rattle.std.specs.Str.{bytes_eq}
 use Rattle.policy_ast.specs.declared.item.Attribute.{Attribute}
@@ -42,7 +42,7 @@ stands_at_most_once test sections = nat_le (count_by test sections) 1
 abbrev pub has_its_sections : List Section → Bool
 has_its_sections sections =
     stands_once is_fields sections && stands_once is_seal sections && stands_once is_open sections && stands_once is_policy sections
-      && stands_at_most_once is_recall sections && stands_at_most_once is_attributes sections
+    && stands_at_most_once is_recall sections && stands_at_most_once is_attributes sections
 
 abbrev pub attributes_of : List Section → List Attribute
 attributes_of [] = []

@@ -1,5 +1,5 @@
 -- The arms of a `match`: what they take, and that one of them takes each value.
-use Rattle.std.specs.Prelude.{ℤ, pos, negsuc, ℕ, Bool, true, false, not, ◌&&◌, ◌||◌, ◌==◌, List, [], ◌∷◌, ◌++◌, map, Option, Some, None, unwrap_or, option_map}
+use Rattle.std.specs.Prelude.{Bool, true, false, not, ◌&&◌, ◌||◌, List, [], ◌∷◌, ◌++◌, Option, Some, None, unwrap_or}
 use Rattle.std.specs.List.{list_all, list_any}
 use Rattle.std.specs.Option.{is_some}
 use Rattle.std.specs.Ordering.{int_eq}
@@ -11,9 +11,7 @@ use Rattle.policy_ast.specs.declared.pattern.ArmPattern.{ArmPattern}
 use Rattle.policy_ast.specs.declared.pattern.ArmPattern.TheVariants as arm_pattern
 use Rattle.policy_ast.specs.declared.pattern.PatternLiteral.{PatternLiteral}
 use Rattle.policy_ast.specs.declared.pattern.PatternLiteral.TheVariants as pattern
-use Rattle.policy_rules.specs.FieldLists.{fits_some}
 use Rattle.policy_rules.specs.Heads.{enum_named, literal_type}
-use Rattle.policy_rules.specs.Names.{Name}
 use Rattle.policy_rules.specs.Types.{fits}
 use Rattle.policy_rules.specs.declared.types.NamedType.{NamedType, out-NamedType}
 use Rattle.policy_rules.specs.declared.types.NamedType.TheOpen.{NamedType-F}
@@ -99,4 +97,4 @@ arms_cover items t patterns = any_is_last patterns && (list_any is_any patterns 
 abbrev pub are_arm_patterns : List Item → NamedType → List ArmPattern → Bool
 are_arm_patterns items t patterns =
     may_match items t && list_all (λ p. some_fits (pattern_type items p) t) (all_listed patterns) && are_distinct_patterns (all_listed patterns)
-      && arms_cover items t patterns
+    && arms_cover items t patterns

@@ -1,5 +1,5 @@
 -- The types of expressions: one rule for each form, and the same for the patterns, the blocks and the lists that stand in them.
-use Rattle.std.specs.Prelude.{◌≡◌, ℤ, pos, negsuc, ℕ, Bool, true, false, ◌&&◌, ◌||◌, nat_le, List, [], ◌∷◌, codes, map, unwrap_or, Option, Some, None}
+use Rattle.std.specs.Prelude.{◌≡◌, ℤ, pos, negsuc, Bool, true, false, ◌&&◌, ◌||◌, nat_le, List, [], ◌∷◌, codes, map, unwrap_or, Option, Some, None}
 use Rattle.std.specs.Str.{bytes_eq}
 use Rattle.policy_ast.specs.declared.bind.Bind.{Bind}
 use Rattle.policy_ast.specs.declared.expr.Arithmetic.{Arithmetic}
@@ -17,7 +17,6 @@ use Rattle.policy_ast.specs.declared.expr.ExprBlock.{ExprBlock}
 use Rattle.policy_ast.specs.declared.expr.IfExpr.{IfExpr}
 use Rattle.policy_ast.specs.declared.expr.Let.{Let}
 use Rattle.policy_ast.specs.declared.expr.Presence.{Presence}
-use Rattle.policy_ast.specs.declared.expr.Unary.{Unary}
 use Rattle.policy_ast.specs.declared.expr.Unary.TheVariants as unary
 use Rattle.policy_ast.specs.declared.item.Item.{Item}
 use Rattle.policy_ast.specs.declared.literal.Literal.{Literal}
@@ -28,7 +27,6 @@ use Rattle.policy_rules.specs.Heads.{FactHead, FunctionHead, fact_named, functio
 use Rattle.policy_rules.specs.Names.{Name}
 use Rattle.policy_rules.specs.Scopes.{Scope, may_introduce, name_type, type_in, with_name}
 use Rattle.policy_rules.specs.Types.{joined}
-use Rattle.policy_rules.specs.declared.context.Block.{Block}
 use Rattle.policy_rules.specs.declared.context.Block.TheVariants as block
 use Rattle.policy_rules.specs.declared.context.Context.{Context}
 use Rattle.policy_rules.specs.declared.types.Named.{Named}

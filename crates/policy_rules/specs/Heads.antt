@@ -1,5 +1,5 @@
 -- What the rest of a policy knows of an item: its fields, variants, parameters and result, and what a literal's type is.
-use Rattle.std.specs.Prelude.{ℤ, ℕ, Bool, true, false, if◌then◌else◌, List, [], ◌∷◌, ◌++◌, map, Option, Some, None, option_map, option_and_then}
+use Rattle.std.specs.Prelude.{Bool, true, false, if◌then◌else◌, List, [], ◌∷◌, ◌++◌, map, Option, Some, None, option_map, option_and_then}
 use Rattle.std.specs.Option.{is_some}
 use Rattle.base_bytes.specs.Values.{fits_int, fits_text}
 use Rattle.policy_ast.specs.declared.field.Field.{Field}

@@ -1,5 +1,5 @@
 -- Well-typed items, kind by kind.
-use Rattle.std.specs.Prelude.{◌≡◌, ℕ, Bool, true, false, not, ◌&&◌, ◌||◌, nat_le, List, [], ◌∷◌, ◌++◌, codes, length, map, Option, Some, None}
+use Rattle.std.specs.Prelude.{◌≡◌, Bool, true, false, not, ◌&&◌, nat_le, List, [], ◌∷◌, codes, length, map, Option, Some, None}
 use Rattle.std.specs.List.{list_all}
 use Rattle.std.specs.Str.{bytes_eq}
 use Rattle.policy_ast.specs.declared.field.EffectField.{EffectField}
@@ -63,7 +63,7 @@ is_key_type t = is_key_type_layer (out-FieldType t)
 abbrev pub are_fact_fields : List Item → List Field → List Field → Bool
 are_fact_fields items keys values =
     are_fields items keys && are_fields items values && list_all (λ f. is_key_type f.field_type) keys
-      && list_all (λ name. not (is_among name (field_names keys))) (field_names values)
+    && list_all (λ name. not (is_among name (field_names keys))) (field_names values)
 
 abbrev pub effect_fields : List EffectField → List Field
 effect_fields fields = map (λ f. f.field) fields

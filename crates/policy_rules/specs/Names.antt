@@ -1,5 +1,5 @@
 -- The names of items, and which item a name means.
-use Rattle.std.specs.Prelude.{ℕ, Bool, false, List, find, position, filter_map, map, Option, Some, None, option_map, unwrap_or}
+use Rattle.std.specs.Prelude.{ℕ, Bool, false, List, find, position, filter_map, Option, Some, None, option_map, unwrap_or}
 use Rattle.std.specs.List.{list_any}
 use Rattle.std.specs.Str.{bytes_eq}
 use Rattle.policy_ast.specs.declared.item.Item.{Item}

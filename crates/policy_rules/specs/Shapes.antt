@@ -9,7 +9,7 @@ use Rattle.policy_ast.specs.declared.field.Field.{Field}
 use Rattle.policy_ast.specs.declared.item.Item.{Item}
 use Rattle.policy_ast.specs.declared.item.Item.TheVariants as item
 use Rattle.policy_rules.specs.Heads.{enum_named, struct_named, written_fields}
-use Rattle.policy_rules.specs.Names.{Name, number_named}
+use Rattle.policy_rules.specs.Names.{number_named}
 use Rattle.policy_rules.specs.Types.{written_type}
 use Rattle.policy_rules.specs.declared.types.NamedType.{NamedType, fold-NamedType}
 use Rattle.policy_rules.specs.declared.types.NamedType.TheOpen.{NamedType-F}

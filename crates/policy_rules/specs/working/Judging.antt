@@ -1,5 +1,5 @@
 -- Whether statements are well typed, and the scope behind each, found from their parts.
-use Rattle.std.specs.Prelude.{ℕ, Bool, true, false, not, ◌&&◌, List, [], ◌∷◌, map, Option, Some, None}
+use Rattle.std.specs.Prelude.{Bool, true, false, not, ◌&&◌, List, [], ◌∷◌, map, Option, Some, None}
 use Rattle.std.specs.Option.{is_some}
 use Rattle.policy_ast.specs.declared.bind.Bind.{Bind}
 use Rattle.policy_ast.specs.declared.expr.Expr.{Expr}
@@ -16,12 +16,10 @@ use Rattle.policy_rules.specs.Coverage.{are_arm_patterns}
 use Rattle.policy_rules.specs.FieldLists.{arguments_fit, in_any_order, in_declared_order}
 use Rattle.policy_rules.specs.Finish.{are_plain, binds_all_keys, is_plain}
 use Rattle.policy_rules.specs.Heads.{FactHead, fact_named, finish_function_named, is_command, is_effect, names_item}
-use Rattle.policy_rules.specs.Names.{Name}
 use Rattle.policy_rules.specs.Scopes.{Scope, may_introduce, with_name}
 use Rattle.policy_rules.specs.Statements.{is_last_layer, within_finish}
 use Rattle.policy_rules.specs.Types.{fits}
 use Rattle.policy_rules.specs.declared.context.Context.{Context}
-use Rattle.policy_rules.specs.declared.types.NamedType.{NamedType}
 use Rattle.policy_rules.specs.declared.types.NamedType.TheVariants as ty
 use Rattle.policy_rules.specs.working.Inference.{◌>>=◌, found_pattern, inferred, is_action_block, is_bool, is_command_block, only_if, pattern_of, struct_of, types_within}
 
@@ -93,7 +91,7 @@ module _ (items : List Item) (context : Context) where
   behind_layer (Stmt-F.Finish statements) scope = only_if (is_command_block context.block && finish_stmts_are items (within_finish context) statements scope) (Some scope)
   behind_layer (Stmt-F.Map p name body) scope =
       only_if (is_action_block context.block && (is_pattern_within items context p scope && (may_introduce items context scope name
-        && block_is body (with_name scope name (ty.Struct p.fact))))) (Some scope)
+      && block_is body (with_name scope name (ty.Struct p.fact))))) (Some scope)
   behind_layer (Stmt-F.Publish e) scope =
       inferred items context e scope >>= struct_of >>= λ command. only_if (is_action_block context.block && names_item is_command items command) (Some scope)
   behind_layer (Stmt-F.Return e) scope = context.result >>= λ result. inferred items context e scope >>= λ t. only_if (fits t result) (Some scope)
