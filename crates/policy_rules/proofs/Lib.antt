@@ -10,6 +10,7 @@ pub mod StatementMaps
 pub mod StatementLaws
 pub mod ItemLaws
 pub mod PolicyLaws
+pub mod Reaching
 mod ExpressionRows
 mod ItemRows
 mod PolicyRows
