@@ -14,3 +14,5 @@ pub mod Reaching
 mod ExpressionRows
 mod ItemRows
 mod PolicyRows
+mod NotesRows
+mod CountsRows
