@@ -1,5 +1,5 @@
 -- A policy of counts, slots and words is well typed: each of its items passes behind the names before it.
-use Rattle.std.proofs.Common.{◌≡◌, ℕ, pos, Bool, true, false, List, [], ◌∷◌, codes, map, Option, Some, None, refl}
+use Rattle.std.proofs.Common.{◌≡◌, pos, true, false, List, [], ◌∷◌, codes, Option, Some, None}
 use Rattle.std.specs.Str.{is_utf8, chars}
 use lib.Utf8.{encode}
 use Rattle.policy_ast.specs.declared.bind.Bind.{Bind}

@@ -14,5 +14,6 @@ pub mod Reaching
 mod ExpressionRows
 mod ItemRows
 mod PolicyRows
+mod StatementRows
 mod NotesRows
 mod CountsRows

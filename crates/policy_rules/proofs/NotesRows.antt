@@ -1,11 +1,8 @@
 -- A policy of notes, and users who write them, is well typed: each of its items passes behind the names before it.
-use Rattle.std.proofs.Common.{◌≡◌, ℕ, pos, Bool, true, false, List, [], ◌∷◌, codes, map, Option, Some, None, refl}
+use Rattle.std.proofs.Common.{◌≡◌, pos, true, false, List, [], ◌∷◌, codes, Option, Some, None, refl}
 use Rattle.std.specs.Str.{is_utf8, chars}
 use lib.Utf8.{encode}
 use Rattle.policy_ast.specs.declared.bind.Bind.{Bind}
-use Rattle.policy_ast.specs.declared.expr.Arithmetic.TheVariants as arithmetic
-use Rattle.policy_ast.specs.declared.expr.Comparison.TheVariants as comparison
-use Rattle.policy_ast.specs.declared.expr.Count.TheVariants as count
 use Rattle.policy_ast.specs.declared.expr.Expr.{Expr}
 use Rattle.policy_ast.specs.declared.expr.Expr.TheVariants as expr
 use Rattle.policy_ast.specs.declared.expr.Unary.TheVariants as unary
