@@ -2,6 +2,7 @@
 use Rattle.std.proofs.Common.{◌≡◌, pos, true, false, List, [], ◌∷◌, codes, Some, None, refl}
 use Rattle.policy_ast.specs.declared.expr.Expr.TheVariants as expr
 use Rattle.policy_ast.specs.declared.field.FieldType.TheVariants as field_type
+use Rattle.policy_ast.specs.declared.finish.FinishStmt.TheVariants as finish
 use Rattle.policy_ast.specs.declared.item.Attribute.{Attribute}
 use Rattle.policy_ast.specs.declared.item.Item.{Item}
 use Rattle.policy_ast.specs.declared.item.Item.TheVariants as item
@@ -138,8 +139,26 @@ sixteen = calling (codes "a") (codes "b") ∷ calling (codes "b") (codes "c") �
     ∷ calling (codes "k") (codes "l") ∷ calling (codes "l") (codes "m") ∷ calling (codes "m") (codes "n") ∷ calling (codes "n") (codes "o") ∷ calling (codes "o") (codes "p")
     ∷ last_function (codes "p") ∷ []
 
+-- fifteen functions and a sixteenth that calls a name that means nothing
+abbrev sixteen_without_end : List Item
+sixteen_without_end = calling (codes "a") (codes "b") ∷ calling (codes "b") (codes "c") ∷ calling (codes "c") (codes "d") ∷ calling (codes "d") (codes "e") ∷ calling (codes "e") (codes "f")
+    ∷ calling (codes "f") (codes "g") ∷ calling (codes "g") (codes "h") ∷ calling (codes "h") (codes "i") ∷ calling (codes "i") (codes "j") ∷ calling (codes "j") (codes "k")
+    ∷ calling (codes "k") (codes "l") ∷ calling (codes "l") (codes "m") ∷ calling (codes "m") (codes "n") ∷ calling (codes "n") (codes "o") ∷ calling (codes "o") (codes "p")
+    ∷ calling (codes "p") (codes "nothing") ∷ []
+
 sixteen_calls : may_chain sixteen (calling (codes "start") (codes "a")) ≡ true
 sixteen_calls = simp row_rules
 
 seventeen_calls : may_chain (calling (codes "start") (codes "a") ∷ sixteen) (calling (codes "before") (codes "start")) ≡ false
 seventeen_calls = simp row_rules
+
+-- a name that means no function is no call
+a_missing_callee_is_no_call : may_chain (sixteen_without_end) (calling (codes "start") (codes "a")) ≡ true
+a_missing_callee_is_no_call = simp row_rules
+
+-- an expression calls no finish function, so a finish function that calls itself is none of its chain
+a_finish_function_is_not_called_by_an_expression : may_chain (item.FinishFunction (codes "h") [] (finish.Call (codes "h") [] ∷ []) ∷ []) (calling (codes "g") (codes "h")) ≡ true
+a_finish_function_is_not_called_by_an_expression = simp row_rules
+
+a_finish_function_in_itself : may_chain (item.FinishFunction (codes "h") [] (finish.Call (codes "h") [] ∷ []) ∷ []) (item.FinishFunction (codes "h") [] (finish.Call (codes "h") [] ∷ [])) ≡ false
+a_finish_function_in_itself = refl
