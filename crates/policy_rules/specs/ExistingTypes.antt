@@ -10,12 +10,14 @@ use Rattle.policy_rules.specs.declared.context.Context.{Context}
 use Rattle.policy_rules.specs.declared.types.NamedType.{NamedType, fold-NamedType}
 use Rattle.policy_rules.specs.declared.types.NamedType.TheOpen.{NamedType-F}
 
+-- One layer of a type, where the type inside an optional is given by its answer.
 abbrev pub is_there_layer : List Item → NamedType-F Bool → Bool
 is_there_layer items (NamedType-F.Enum name) = is_some (enum_named items name)
 is_there_layer items (NamedType-F.Struct name) = is_some (struct_named items name)
 is_there_layer items (NamedType-F.Optional inner) = inner
 is_there_layer items other = true
 
+-- The enums and structs that a type names are there.
 abbrev pub is_there : List Item → NamedType → Bool
 is_there items = fold-NamedType Bool (is_there_layer items)
 
