@@ -29,6 +29,13 @@ struct Facts {
     rows: BTreeMap<Place, Vec<Value>>,
 }
 
+fn is_named(named: &[Option<Value>], values: &[Value]) -> bool {
+    named
+        .iter()
+        .zip(values)
+        .all(|(named, value)| named.as_ref().is_none_or(|named| named == value))
+}
+
 impl Facts {
     fn create(&mut self, fact: u32, keys: Vec<Value>, values: Vec<Value>) -> Result<(), Exists> {
         match self.rows.entry((fact, keys)) {
@@ -40,6 +47,27 @@ impl Facts {
         }
     }
 
+    /// Gives the row of just these keys other values, where it is there and its values begin with the named ones.
+    fn update(
+        &mut self,
+        fact: u32,
+        keys: Vec<Value>,
+        named: &[Option<Value>],
+        values: Vec<Value>,
+    ) -> bool {
+        match self.rows.get_mut(&(fact, keys)) {
+            Some(held) if is_named(named, held) => {
+                *held = values;
+                true
+            }
+            _ => false,
+        }
+    }
+
+    fn delete(&mut self, fact: u32, keys: Vec<Value>) -> bool {
+        self.rows.remove(&(fact, keys)).is_some()
+    }
+
     /// The first row of a fact whose keys begin with these and whose values are the named ones.
     fn first(
         &self,
@@ -48,16 +76,10 @@ impl Facts {
         named: &[Option<Value>],
     ) -> Option<(&Place, &Vec<Value>)> {
         let start = (fact, keys);
-        let is_named = |values: &[Value]| {
-            named
-                .iter()
-                .zip(values)
-                .all(|(named, value)| named.as_ref().is_none_or(|named| named == value))
-        };
         self.rows
             .range(&start..)
             .take_while(|(place, _)| place.0 == fact && place.1.starts_with(&start.1))
-            .find(|(_, values)| is_named(values))
+            .find(|(_, values)| is_named(named, values))
     }
 }
 
@@ -107,4 +129,28 @@ pub fn copy(rows: u32, rounds: u32) {
         .map(|turn| first(&black_box(facts.clone()), turn))
         .sum();
     println!("Facts Copy: {rows} rows, {rounds} rounds, sum {sum}");
+}
+
+fn keys(row: u32) -> Vec<Value> {
+    vec![Value::Int(group(row)), Value::Int(number(row))]
+}
+
+/// The change of this turn: an update, a delete, and the create of what was deleted.
+fn changed(facts: &mut Facts, turn: u32, rows: u32) -> bool {
+    let row = (turn / 3).wrapping_mul(7919) % rows.max(1);
+    let values = || vec![Value::Int(row.into())];
+    match turn % 3 {
+        0 => facts.update(0, keys(row), &[], values()),
+        1 => facts.delete(0, keys(row)),
+        _ => facts.create(0, keys(row), values()).is_ok(),
+    }
+}
+
+/// Rows in no order, and then updates, deletes and creates; how many of them came through.
+pub fn change(rows: u32, rounds: u32) {
+    let mut facts = filled(rows);
+    let sum = (0..rounds)
+        .filter(|turn| changed(&mut facts, *turn, rows))
+        .count();
+    println!("Facts Change: {rows} rows, {rounds} rounds, sum {sum}");
 }

@@ -157,6 +157,16 @@ impl Graph {
         self.append(self.next_id(), basic);
     }
 
+    fn append_finalize(&mut self, parent: usize) {
+        let parent = self.commands[parent].0;
+        let finalize = Command::Finalize {
+            parent,
+            author: [2; 32],
+            content: content(),
+        };
+        self.append(self.next_id(), finalize);
+    }
+
     fn append_merge(&mut self, one: usize, other: usize) {
         let (one, other) = (self.commands[one].0, self.commands[other].0);
         self.append(
@@ -177,7 +187,32 @@ fn content() -> Content {
     }
 }
 
-/// Two strands of so many commands side by side, a chain of so many, or so many diamonds that are each ended by a merge.
+/// A number below the bound, drawn as the proved program draws it.
+fn draw(state: &mut u64, bound: u64) -> u64 {
+    *state = state
+        .wrapping_mul(6_364_136_223_846_793_005)
+        .wrapping_add(1_442_695_040_888_963_407);
+    (*state >> 33) % bound
+}
+
+/// So many commands by eight writers, who merge and finalize now and then.
+fn by_writers(graph: &mut Graph, size: usize) {
+    let (mut state, mut heads) = (1, [0; 8]);
+    for place in 1..size {
+        let writer = draw(&mut state, 8) as usize;
+        let other = heads[draw(&mut state, 8) as usize];
+        let own = heads[writer];
+        match draw(&mut state, 8) {
+            0 if own > 0 && own != other => graph.append_merge(own, other),
+            1 => graph.append_finalize(own),
+            _ => graph.append_basic(draw(&mut state, 4) as u32, own),
+        }
+        heads[writer] = place;
+    }
+}
+
+/// Two strands of so many commands side by side, a chain of so many, so many diamonds that are each ended by a merge, or so many
+/// commands by eight writers.
 fn graph(shape: &str, size: usize) -> Graph {
     let mut graph = Graph::default();
     graph.append_init();
@@ -196,6 +231,7 @@ fn graph(shape: &str, size: usize) -> Graph {
                 graph.append_merge(3 * turn + 1, 3 * turn + 2);
             }
         }
+        "writers" => by_writers(&mut graph, size),
         _ => panic!("another shape"),
     }
     graph

@@ -10,7 +10,7 @@ use std::env;
 use std::process::ExitCode;
 
 const USAGE: &str = "usage: plain run POLICY SCRIPT, plain read SIZE ROUNDS, plain braid|ancestor SHAPE SIZE ROUNDS, or \
-    plain facts query|copy ROWS ROUNDS";
+    plain facts query|copy|change ROWS ROUNDS";
 
 fn number<T: std::str::FromStr>(word: &str) -> T {
     word.parse().ok().expect(USAGE)
@@ -26,6 +26,7 @@ fn main() -> ExitCode {
             graphs::ask_graph(ask, shape, number(size), number(rounds))
         }
         ["facts", "query", rows, rounds] => facts::query(number(rows), number(rounds)),
+        ["facts", "change", rows, rounds] => facts::change(number(rows), number(rounds)),
         ["facts", "copy", rows, rounds] => facts::copy(number(rows), number(rounds)),
         _ => panic!("{USAGE}"),
     }

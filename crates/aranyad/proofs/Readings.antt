@@ -41,6 +41,11 @@ some_run tokens (t ∷ rest) run = (Err t.line, policies.behind_run t rest run)
 pub some_parse : (tokens : List Token) → (parse : Result (List PlacedItem) ℕ) × IsParse tokens parse
 some_parse tokens = some_run tokens (read_run (length tokens) [] tokens).1 (longest_run tokens)
 
+-- the tokens were parsed as this
+pub parsed : (told : Option Tagging) (document : List ℕ) (script : Option (Option (List ℕ))) (tokens : List Token) (one : Result (List PlacedItem) ℕ) (result : Result Ending Halt) (old new : Option (List ℕ)) → IsParse tokens one →
+    RunsTo result (parse_outcome told document script one) old new → (parse : Result (List PlacedItem) ℕ) → IsParse tokens parse → RunsTo result (parse_outcome told document script parse) old new
+parsed told document script tokens one result old new is runs parse also = subst (λ p. RunsTo result (parse_outcome told document script p) old new) (one_parse tokens one parse is also) runs
+
 -- the tokens of the document were found
 pub tokens_found : (told : Option Tagging) (document : List ℕ) (script : Option (Option (List ℕ))) (tokens : List Token) (result : Result Ending Halt) (old new : Option (List ℕ)) → document_tokens document ≡ Ok tokens →
     ((parse : Result (List PlacedItem) ℕ) → IsParse tokens parse → RunsTo result (parse_outcome told document script parse) old new) →

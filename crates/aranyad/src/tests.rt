@@ -24,7 +24,10 @@ fn filled(alloc: Global, text: &str, length: usize) -> Result<Bytes, NoMemory> {
     let place = text.iter().rposition(|byte| *byte == b' ').unwrap_or(0);
     let (front, rest) = text.split_at(place);
     let mut bytes = Bytes::from_slice(alloc, front)?;
-    bytes.extend(alloc, vec![in alloc; b' '; length.saturating_sub(text.len())]?.as_slice())?;
+    bytes.extend(
+        alloc,
+        vec![in alloc; b' '; length.saturating_sub(text.len())]?.as_slice(),
+    )?;
     bytes.extend(alloc, rest)?;
     Ok(bytes)
 }

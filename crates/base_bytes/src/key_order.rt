@@ -25,7 +25,8 @@ pub fn compare(a: &Value, b: &Value) -> Ordering
     }
 }
 
-fn variant_place(value: &Value) -> u8
+/// The place of a value's variant among the variants of `Value`, from 0.
+pub fn variant_place(value: &Value) -> u8
     ensures { result ≡ place_of (out-Value value.now) }
 {
     match value {

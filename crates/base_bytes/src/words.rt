@@ -9,7 +9,8 @@ pub fn is_word(bytes: &[u8]) -> bool
     begins_with_letter(bytes) && are_word_bytes(bytes) && bytes.len() <= 64
 }
 
-fn begins_with_letter(bytes: &[u8]) -> bool
+/// Whether bytes begin with an ASCII letter.
+pub fn begins_with_letter(bytes: &[u8]) -> bool
     ensures { result ≡ begins_with_letter bytes.now }
 {
     match bytes {

@@ -2,6 +2,7 @@ use base_bytes::NoMemory;
 use command::Graph;
 use graph_set::ListGraph;
 use graph_tests::made::{Step, braided, made};
+use graph_tests::writers::by_writers;
 use std::alloc::Global;
 
 /// What is asked of a graph.
@@ -22,6 +23,8 @@ pub enum Shape {
     Chain,
     /// So many diamonds, one behind the other, each ended by a merge.
     Diamonds,
+    /// So many by eight writers, who merge and finalize now and then.
+    Writers,
 }
 
 fn strands(alloc: Global, size: usize) -> Result<Vec<Step>, NoMemory> {
@@ -92,6 +95,7 @@ pub fn run(
         Shape::Strands => strands(alloc, size)?,
         Shape::Chain => chain(alloc, size)?,
         Shape::Diamonds => diamonds(alloc, size)?,
+        Shape::Writers => by_writers(alloc, size, 8, 1)?,
     };
     let Some(graph) = made::<ListGraph>(alloc, steps.as_slice())? else {
         return Ok(0);

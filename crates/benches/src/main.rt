@@ -60,6 +60,7 @@ fn shape_of(word: &str) -> Option<Shape> {
         "strands" => Some(Shape::Strands),
         "chain" => Some(Shape::Chain),
         "diamonds" => Some(Shape::Diamonds),
+        "writers" => Some(Shape::Writers),
         _ => None,
     }
 }
@@ -76,6 +77,7 @@ fn shape_word(shape: Shape) -> &'static str {
         Shape::Strands => "strands",
         Shape::Chain => "chain",
         Shape::Diamonds => "diamonds",
+        Shape::Writers => "writers",
     }
 }
 
@@ -113,7 +115,7 @@ fn report_disk(rt: &HostRuntime, rounds: u32) -> io::Result<()> {
 
 fn usage(rt: &HostRuntime) -> io::Result<()> {
     println!(rt;
-        "usage: benches read|copy 4096|100 ROUNDS, or benches braid|ancestor strands|chain|diamonds SIZE ROUNDS, or benches write ROUNDS"
+        "usage: benches read|copy 4096|100 ROUNDS, or benches braid|ancestor strands|chain|diamonds|writers SIZE ROUNDS, or benches write ROUNDS"
     )
 }
 
@@ -156,7 +158,12 @@ fn report_all(rt: &HostRuntime) -> io::Result<()> {
         report(rt, call, Size::Large, 3)?;
         report(rt, call, Size::Small, 3)?;
     }
-    for shape in [Shape::Strands, Shape::Chain, Shape::Diamonds] {
+    for shape in [
+        Shape::Strands,
+        Shape::Chain,
+        Shape::Diamonds,
+        Shape::Writers,
+    ] {
         report_graph(rt, Ask::Braid, shape, 20, 3)?;
         report_graph(rt, Ask::Ancestor, shape, 20, 3)?;
     }

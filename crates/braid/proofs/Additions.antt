@@ -20,20 +20,12 @@ pub parent_is : (id : List ℕ) (y : Command) → Contains (parents_of y) id →
 parent_is id y h = any_of (bytes_eq id) (parents_of y) id h (bytes_of_same id id refl)
 
 module _ (P : List ℕ → Type 0) (cs : List Command) where
-  -- nothing is added where there are no ids, and where the one id leads nowhere or doesn't meet the condition
+  -- nothing is added where there are no ids
   pub adds_none : (places : List ℕ) → AddsWhere P cs [] places places
   adds_none places = record {
     more = [];
     grown = sym (append-nil places);
     has = λ id place h meets is. absurd (none_element id h);
-    only = λ place h. absurd (none_element place h);
-  }
-
-  pub adds_nowhere : (id : List ℕ) (places : List ℕ) → ((place : ℕ) → P id → place_of cs id ≡ Some place → ⊥) → AddsWhere P cs (id ∷ []) places places
-  adds_nowhere id places not = record {
-    more = [];
-    grown = sym (append-nil places);
-    has = λ other place h meets is. let same = one_element id other h in absurd (not place (subst P (sym same) meets) (ap (place_of cs) same ∙ is));
     only = λ place h. absurd (none_element place h);
   }
 

@@ -22,7 +22,7 @@ use Rattle.braid.specs.working.Placing.{AddsWhere, IsAmong}
 use Rattle.braid.proofs.Additions.{found_place}
 use Rattle.braid.proofs.PickOrder.{one_at}
 
-past : (xs : List ℕ) (k : ℕ) → slice_get xs k ≡ None → length xs ≤ k
+pub past : (xs : List ℕ) (k : ℕ) → slice_get xs k ≡ None → length xs ≤ k
 past xs k none = elim (cases_lt k (length xs)) [
   | inl lt ↦ let here = slice_get-get_or xs k 0 lt in let both : Some (get_or xs k 0) ≡ None = sym here ∙ none in absurd cc
   | inr ge ↦ ge

@@ -8,8 +8,12 @@ pub mod Finality
 pub mod PickOrder
 pub mod Places
 pub mod Additions
+pub mod Counts
+pub mod Numbers
+pub mod Turning
 pub mod Progress
 pub mod Gathering
+pub mod Linking
 pub mod Carrying
 pub mod Closures
 pub mod Appends

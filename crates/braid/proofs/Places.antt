@@ -1,5 +1,5 @@
 -- Places without one, and the commands at places.
-use Rattle.std.proofs.Common.{◌≡◌, ℕ, ◌+◌, ◌<◌, ◌≤◌, ◌⊎◌, inl, inr, Bool, true, false, ◌==◌, cond, not, List, [], ◌∷◌, ◌++◌, length, reverse, slice_get, Option, None, Some, refl, sym, ap, subst, ◌∙◌, arith}
+use Rattle.std.proofs.Common.{◌≡◌, ℕ, ◌⊎◌, inl, inr, Bool, true, false, ◌==◌, cond, not, List, [], ◌∷◌, ◌++◌, reverse, slice_get, Option, None, Some, refl, sym, ap, subst, ◌∙◌}
 use Rattle.std.specs.List.{All, Contains}
 use Rattle.std.proofs.lemmas.List.Sorted.{All-permutation, IsPermutation-reverse}
 use Rattle.std.proofs.lemmas.Bool.Decides.{Decides-eqb}
@@ -42,28 +42,6 @@ struck_has place (p ∷ places) q h differs =
           subst (λ k. Contains (struck place (p ∷ places)) k) same
           (kept_if_not (p == place) p (struck place places) (is_not (p == place) (λ holds. differs (sym same ∙ (Decides-eqb p place).0 holds))))
       | inr later ↦ kept_behind (p == place) p q (struck place places) (struck_has place places q later differs)
-    ]
-
-length-cond : (b : Bool) (p : ℕ) (more : List ℕ) → length (cond (not b) (p ∷ more) more) ≤ length more + 1
-length-cond true p more = omega arith
-length-cond false p more = omega arith
-
-length-gone : (b : Bool) (p : ℕ) (more : List ℕ) → b ≡ true → length (cond (not b) (p ∷ more) more) ≤ length more
-length-gone true p more is = omega arith
-length-gone false p more is = absurd cc
-
-no_longer : (place : ℕ) (places : List ℕ) → length (struck place places) ≤ length places
-no_longer place [] = omega arith
-no_longer place (p ∷ places) = let more = no_longer place places in let one = length-cond (p == place) p (struck place places) in omega (arith, more, one)
-
-pub struck_shorter : (place : ℕ) (places : List ℕ) → Contains places place → length (struck place places) < length places
-struck_shorter place [] h = absurd (none_element place h)
-struck_shorter place (p ∷ places) h =
-    elim (head_cases p places place h) [
-      | inl same ↦
-          let one = length-gone (p == place) p (struck place places) ((Decides-eqb p place).1 same) in
-          let more = no_longer place places in omega (arith, one, more)
-      | inr later ↦ let more = struck_shorter place places later in let one = length-cond (p == place) p (struck place places) in omega (arith, more, one)
     ]
 
 -- the command at the first place

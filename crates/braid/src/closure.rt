@@ -1,9 +1,10 @@
-ghost use Rattle.std.specs.Prelude.{◌≡◌, ◌<◌, ◌↔◌, [], ◌∷◌, ℕ, nat_eq, IfOk, OnOk, length, slice_get};
+ghost use Rattle.std.specs.Prelude.{◌≡◌, ◌<◌, ◌↔◌, [], ◌∷◌, ℕ, nat_eq, IfOk, OnOk, drop, length, slice_get, take};
 ghost use Rattle.std.specs.List.{All, Contains};
 ghost use Rattle.command.specs.Ancestors.{IsUnder};
 ghost use Rattle.command.specs.Kinds.{parents_of};
 ghost use Rattle.command.specs.declared.command.Command.{Command as TheCommand};
 ghost use Rattle.indexmap.specs.IndexSet.{IsUnique};
+ghost use Rattle.braid.specs.working.Links.{AreNumbers, IsClosureWith, listed, listed_links, places_of};
 ghost use Rattle.braid.specs.working.Placing.{AddsWhere, IsAmong};
 
 use base_bytes::{Id, NoMemory};
@@ -11,34 +12,66 @@ use command::{Command, Graph};
 use indexmap::IndexSet;
 use std::alloc::Global;
 
-/// Puts the place of the command with this id behind the others.
-fn add_place<G: Graph>(graph: &G, id: &Id, places: &mut IndexSet<usize>) -> Result<(), NoMemory>
-    ensures { OnOk result (AddsWhere (λ id. Unit {0}) (G.commands graph.now) (id.now ∷ []) places.old.keys places.new.keys) }
-{
-    if let Some(place) = graph.place_of(id) {
-        places.insert(place)?;
-    }
-    Ok(())
+/// The parents of a command of the closure, by their numbers there.
+#[derive(Clone, Copy)]
+pub struct Links {
+    pub left: Option<usize>,
+    pub right: Option<usize>,
 }
 
-/// Puts the places of the parents of a command behind the others.
+/// The commands of a closure, numbered from 0: each one's place in the graph, and its parents.
+#[derive(Drop)]
+pub struct Found {
+    pub places: IndexSet<usize>,
+    pub links: Vec<Links>,
+}
+
+/// Numbers the command with this id, where it has no number yet.
+fn add_place<G: Graph>(
+    graph: &G,
+    id: &Id,
+    places: &mut IndexSet<usize>,
+) -> Result<Option<usize>, NoMemory>
+    ensures adds { OnOk result (AddsWhere (λ id. Unit {0}) (G.commands graph.now) (id.now ∷ []) places.old.keys places.new.keys) }
+    ensures number { IfOk result (λ number. AreNumbers places.new.keys (listed number) (places_of (G.commands graph.now) (id.now ∷ []))) }
+{
+    let Some(place) = graph.place_of(id) else {
+        return Ok(None);
+    };
+    let (number, _) = places.insert_full(place)?;
+    Ok(Some(number))
+}
+
+/// The same for one of some ids, if there are so many.
+fn add_nth<G: Graph>(
+    graph: &G,
+    ids: &[Id],
+    nth: usize,
+    places: &mut IndexSet<usize>,
+) -> Result<Option<usize>, NoMemory>
+    ensures adds { OnOk result (AddsWhere (λ id. Unit {0}) (G.commands graph.now) (take 1 (drop nth ids.now)) places.old.keys places.new.keys) }
+    ensures number { IfOk result (λ number. AreNumbers places.new.keys (listed number) (places_of (G.commands graph.now) (take 1 (drop nth ids.now)))) }
+{
+    match ids.get(nth) {
+        Some(id) => add_place(graph, id, places),
+        None => Ok(None),
+    }
+}
+
+/// Numbers the parents of a command.
 fn add_parents<G: Graph>(
     graph: &G,
     command: &Command,
     places: &mut IndexSet<usize>,
-) -> Result<(), NoMemory>
-    ensures { OnOk result (AddsWhere (λ id. Unit {0}) (G.commands graph.now) (parents_of command.now) places.old.keys places.new.keys) }
+) -> Result<Links, NoMemory>
+    ensures adds { OnOk result (AddsWhere (λ id. Unit {0}) (G.commands graph.now) (parents_of command.now) places.old.keys places.new.keys) }
+    ensures links { IfOk result (λ links. AreNumbers places.new.keys (listed_links links) (places_of (G.commands graph.now) (parents_of command.now))) }
 {
-    match command {
-        Command::Init { .. } => {}
-        Command::Basic { parent, .. } => add_place(graph, parent, places)?,
-        Command::Finalize { parent, .. } => add_place(graph, parent, places)?,
-        Command::Merge { left, right } => {
-            add_place(graph, left, places)?;
-            add_place(graph, right, places)?;
-        }
-    }
-    Ok(())
+    let parents = command.parents();
+    let ids = parents.as_slice();
+    let left = add_nth(graph, ids, 0, places)?;
+    let right = add_nth(graph, ids, 1, places)?;
+    Ok(Links { left, right })
 }
 
 /// The tips' places, each once.
@@ -52,7 +85,7 @@ fn tip_places(alloc: Global, tips: &[usize]) -> Result<IndexSet<usize>, NoMemory
     Ok(places)
 }
 
-/// The place that was put there as the so-manieth, from 0.
+/// The place of the command with this number.
 fn nth_place(places: &IndexSet<usize>, nth: usize) -> Option<usize>
     ensures place { result ≡ slice_get places.now.keys nth }
     ensures distinct { IsUnique nat_eq places.now }
@@ -64,21 +97,15 @@ fn nth_place(places: &IndexSet<usize>, nth: usize) -> Option<usize>
     }
 }
 
-/// The places of the closure of the tips, each once.
-pub fn closure<G: Graph>(
-    alloc: Global,
-    graph: &G,
-    tips: &[usize],
-) -> Result<IndexSet<usize>, NoMemory>
+/// The closure of the tips.
+pub fn closure<G: Graph>(alloc: Global, graph: &G, tips: &[usize]) -> Result<Found, NoMemory>
     requires { All (λ p. p < length (G.commands graph.now)) tips.now }
-    ensures within { IfOk result (λ places. All (λ p. p < length (G.commands graph.now)) places.keys) }
-    ensures under { IfOk result (λ places. (z : TheCommand) → IsAmong (G.commands graph.now) places.keys z ↔ IsUnder (G.commands graph.now) tips.now z) }
+    ensures { IfOk result (λ found. IsClosureWith (G.commands graph.now) tips.now found.places.keys found.links.items) }
 {
     let mut places = tip_places(alloc, tips)?;
-    let mut seen = 0;
-    while let Some(place) = nth_place(&places, seen) {
-        add_parents(graph, graph.at(place), &mut places)?;
-        seen += 1;
+    let mut links = Vec::new(alloc);
+    while let Some(place) = nth_place(&places, links.len()) {
+        links.push(add_parents(graph, graph.at(place), &mut places)?)?;
     }
-    Ok(places)
+    Ok(Found { places, links })
 }

@@ -4,8 +4,8 @@
 mod children;
 mod closure;
 mod laws;
-mod lowest;
 mod ordering;
+mod turns;
 
 pub use laws::{
     agreeing_lists_have_one_braid, closures_have_one_braid, closures_stay, finalize_is_final,

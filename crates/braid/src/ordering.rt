@@ -1,43 +1,94 @@
-ghost use Rattle.std.specs.Prelude.{◌≡◌, ◌<◌, ℕ, List, IfOk, OnOk, length};
-ghost use Rattle.std.specs.List.{All};
+ghost use Rattle.std.specs.Prelude.{◌≡◌, ◌<◌, ◌≤◌, ◌+◌, ℕ, List, [], ◌++◌, if◌then◌else◌, IfOk, OnOk, IfSome, Some, ◌∷◌, length, slice_get, get_or};
+ghost use Rattle.std.specs.BinaryHeap.{heap_items};
+ghost use Rattle.std.specs.List.{All, sum};
 ghost use Rattle.braid.specs.Braids.{IsBraidUnder, picked};
-ghost use Rattle.braid.specs.working.Placing.{IsFirst, Placing, struck};
+ghost use Rattle.braid.specs.working.Links.{AreLinked, AreNumbers, IsClosureWith, listed, listed_links, parents_at, times};
+ghost use Rattle.braid.specs.working.Turns.{AreOrdered, IsTurn, Offers, Standing, waiting};
 
-use crate::children::{free, tops};
+use crate::children::children;
 use crate::closure::closure;
-use crate::lowest::lowest;
+use crate::turns::{Turn, first, turn_of};
 use base_bytes::NoMemory;
 use command::{Graph, Places};
 use std::alloc::Global;
+use std::collections::BinaryHeap;
 
-/// Takes a place out of the places.
-fn strike(places: &mut Vec<usize>, place: usize)
-    ensures { places.new.items ≡ struck place places.old.items }
+/// Puts the command with this number into the heap, if none of its children remains.
+fn offer<G: Graph>(
+    graph: &G,
+    places: &[usize],
+    children: &[usize],
+    number: usize,
+    heap: &mut BinaryHeap<Turn>,
+) -> Result<(), NoMemory>
+    requires number { number < length places.now }
+    requires children { length children.now ≡ length places.now }
+    requires within { All (λ p. p < length (G.commands graph.now)) places.now }
+    requires heap { AreOrdered (heap_items heap.old) }
+    ensures heap { AreOrdered (heap_items heap.new) }
+    ensures offers { OnOk result (Offers (G.commands graph.now) places.now number (get_or children.now number 0) (heap_items heap.old) (heap_items heap.new)) }
 {
-    places.retain(|other| *other != place);
+    if children[number] == 0 {
+        heap.push(turn_of(graph, places, number))?;
+    }
+    Ok(())
 }
 
-/// Takes the first place, and places its command in front of the others, unless it is a merge.
-fn take<G: Graph>(
+/// Counts one child less of a parent, and offers it.
+fn release<G: Graph>(
+    graph: &G,
+    places: &[usize],
+    children: &mut Vec<usize>,
+    number: Option<usize>,
+    heap: &mut BinaryHeap<Turn>,
+) -> Result<(), NoMemory>
+    requires number { IfSome number (λ k. (k < length places.now) × (0 < get_or children.old.items k 0)) }
+    requires children { length children.old.items ≡ length places.now }
+    requires within { All (λ p. p < length (G.commands graph.now)) places.now }
+    requires heap { AreOrdered (heap_items heap.old) }
+    ensures heap { AreOrdered (heap_items heap.new) }
+    ensures children { length children.new.items ≡ length children.old.items }
+    ensures fewer { OnOk result (length (heap_items heap.new) + sum children.new.items ≤ length (heap_items heap.old) + sum children.old.items) }
+    ensures standing { OnOk result ((parents due remaining : List ℕ) → AreNumbers places.now (listed number) parents →
+        ((p : ℕ) → times p places.now ≤ 1) → ((p : ℕ) → times p remaining ≤ 1) →
+        Standing (G.commands graph.now) places.now children.old.items (heap_items heap.old) (parents ++ due) remaining →
+        Standing (G.commands graph.now) places.now children.new.items (heap_items heap.new) due remaining) }
+{
+    let Some(number) = number else {
+        return Ok(());
+    };
+    children[number] -= 1;
+    offer(graph, places, children.as_slice(), number, heap)?;
+    Ok(())
+}
+
+/// The commands that no command of the closure has as a parent.
+fn tops<G: Graph>(
     alloc: Global,
     graph: &G,
-    place: usize,
-    left: &mut Vec<usize>,
-    tops: &mut Vec<usize>,
-    placed: &mut Places,
-) -> Result<(), NoMemory>
-    requires place { place < length (G.commands graph.now) }
-    requires left { All (λ p. p < length (G.commands graph.now)) left.old.items }
-    ensures left { left.new.items ≡ struck place left.old.items }
-    ensures placing { OnOk result ((tips : List ℕ) → Placing (G.commands graph.now) tips left.old.items tops.old.items placed.old →
-        IsFirst (G.commands graph.now) tops.old.items place → Placing (G.commands graph.now) tips left.new.items tops.new.items placed.new) }
+    places: &[usize],
+    children: &[usize],
+) -> Result<BinaryHeap<Turn>, NoMemory>
+    requires children { length children.now ≡ length places.now }
+    requires within { All (λ p. p < length (G.commands graph.now)) places.now }
+    requires once { (p : ℕ) → times p places.now ≤ 1 }
+    ensures heap { IfOk result (λ heap. AreOrdered (heap_items heap)) }
+    ensures standing { IfOk result (λ heap. ((k p : ℕ) → slice_get places.now k ≡ Some p → get_or children.now k 0 ≡ waiting (G.commands graph.now) [] places.now p) →
+        Standing (G.commands graph.now) places.now children.now (heap_items heap) [] places.now) }
 {
-    strike(left, place);
-    strike(tops, place);
-    let command = graph.at(place);
-    free(graph, left.as_slice(), command, tops)?;
-    if !command.is_merge() {
-        placed.push(alloc, place)?;
+    let mut heap = BinaryHeap::new(alloc);
+    for number in 0..places.len() {
+        offer(graph, places, children, number, &mut heap)?;
+    }
+    Ok(heap)
+}
+
+/// Puts the place of a turn's command behind those that are placed, unless it is a merge. The last of the braid comes first there.
+fn put(alloc: Global, turn: &Turn, placed: &mut Places) -> Result<(), NoMemory>
+    ensures { OnOk result (placed.new ≡ (if turn.now.is_merge then placed.old else placed.old ++ turn.now.place ∷ [])) }
+{
+    if !turn.is_merge {
+        placed.push(alloc, turn.place)?;
     }
     Ok(())
 }
@@ -49,11 +100,16 @@ pub fn braid<G: Graph>(alloc: Global, graph: &G, tips: &[usize]) -> Result<Place
     ensures within { IfOk result (All (λ p. p < length (G.commands graph.now))) }
 {
     let found = closure(alloc, graph, tips)?;
-    let mut left = Vec::from_slice(alloc, found.as_slice())?;
-    let mut tops = tops(alloc, graph, left.as_slice())?;
+    let places = found.places.as_slice();
+    let links = found.links.as_slice();
+    let mut children = children(alloc, links)?;
+    let mut heap = tops(alloc, graph, places, children.as_slice())?;
     let mut placed = Places::new(alloc);
-    while let Some(place) = lowest(graph, tops.as_slice()) {
-        take(alloc, graph, place, &mut left, &mut tops, &mut placed)?;
+    while let Some(turn) = first(&mut heap) {
+        put(alloc, &turn, &mut placed)?;
+        let them = links[turn.number];
+        release(graph, places, &mut children, them.left, &mut heap)?;
+        release(graph, places, &mut children, them.right, &mut heap)?;
     }
     placed.reverse();
     Ok(placed)

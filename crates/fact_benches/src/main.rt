@@ -1,5 +1,5 @@
-//! Calls of the flat fact base, made often, and the same on a plain ordered map: `bench/facts` takes the time.
-//! `fact_benches facts|map query|copy ROWS ROUNDS`; without words each call is made a few times.
+//! Calls of both fact bases, made often, and the same on a plain ordered map: `bench/facts` takes the time.
+//! `fact_benches facts|layers|map query|copy|change|chain ROWS ROUNDS`; without words each call is made a few times.
 #![tactic(auto)]
 
 mod facts;
@@ -7,12 +7,15 @@ mod map;
 mod sample;
 
 use base_bytes::NoMemory;
+use fact_layers::LayeredFacts;
+use fact_store::{FactBase, Facts};
 use std::alloc::Global;
 use std::{env, io};
 
 #[derive(Clone, Copy, Debug)]
 enum Base {
     Facts,
+    Layers,
     Map,
 }
 
@@ -20,11 +23,14 @@ enum Base {
 enum Call {
     Query,
     Copy,
+    Change,
+    Chain,
 }
 
 fn base_of(word: &str) -> Option<Base> {
     match word {
         "facts" => Some(Base::Facts),
+        "layers" => Some(Base::Layers),
         "map" => Some(Base::Map),
         _ => None,
     }
@@ -34,17 +40,41 @@ fn call_of(word: &str) -> Option<Call> {
     match word {
         "query" => Some(Call::Query),
         "copy" => Some(Call::Copy),
+        "change" => Some(Call::Change),
+        "chain" => Some(Call::Chain),
         _ => None,
+    }
+}
+
+fn run_facts<F: FactBase>(
+    alloc: Global,
+    call: Call,
+    rows: u32,
+    rounds: u32,
+) -> Result<u64, NoMemory> {
+    match call {
+        Call::Query => facts::query::<F>(alloc, rows, rounds),
+        Call::Copy => facts::copy::<F>(alloc, rows, rounds),
+        Call::Change => facts::change::<F>(alloc, rows, rounds),
+        Call::Chain => facts::chain::<F>(alloc, rows, rounds),
+    }
+}
+
+fn run_map(alloc: Global, call: Call, rows: u32, rounds: u32) -> Result<u64, NoMemory> {
+    match call {
+        Call::Query => map::query(alloc, rows, rounds),
+        Call::Copy => map::copy(alloc, rows, rounds),
+        Call::Change => map::change(alloc, rows, rounds),
+        Call::Chain => map::chain(alloc, rows, rounds),
     }
 }
 
 /// Fills a base with so many rows and makes the call so many times; a sum of what it answered.
 fn run(alloc: Global, base: Base, call: Call, rows: u32, rounds: u32) -> Result<u64, NoMemory> {
-    match (base, call) {
-        (Base::Facts, Call::Query) => facts::query(alloc, rows, rounds),
-        (Base::Facts, Call::Copy) => facts::copy(alloc, rows, rounds),
-        (Base::Map, Call::Query) => map::query(alloc, rows, rounds),
-        (Base::Map, Call::Copy) => map::copy(alloc, rows, rounds),
+    match base {
+        Base::Facts => run_facts::<Facts>(alloc, call, rows, rounds),
+        Base::Layers => run_facts::<LayeredFacts>(alloc, call, rows, rounds),
+        Base::Map => run_map(alloc, call, rows, rounds),
     }
 }
 
@@ -70,7 +100,9 @@ fn report_words(
     let rounds = rounds.parse::<u32>().ok();
     match (base, call, rows, rounds) {
         (Some(base), Some(call), Some(rows), Some(rounds)) => report(rt, base, call, rows, rounds),
-        _ => println!(rt; "usage: fact_benches facts|map query|copy ROWS ROUNDS"),
+        _ => println!(rt;
+            "usage: fact_benches facts|layers|map query|copy|change|chain ROWS ROUNDS"
+        ),
     }
 }
 
@@ -82,8 +114,8 @@ fn main(rt: HostRuntime) -> io::Result<()> {
             report_words(&rt, &base, &call, &rows, &rounds)
         }
         _ => {
-            for base in [Base::Facts, Base::Map] {
-                for call in [Call::Query, Call::Copy] {
+            for base in [Base::Facts, Base::Layers, Base::Map] {
+                for call in [Call::Query, Call::Copy, Call::Change, Call::Chain] {
                     report(&rt, base, call, 300, 20)?;
                 }
             }

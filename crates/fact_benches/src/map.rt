@@ -1,4 +1,4 @@
-use crate::sample::{group, number};
+use crate::sample::{Change, change_of, group, number};
 use base_bytes::NoMemory;
 use std::alloc::Global;
 use std::collections::BTreeMap;
@@ -41,4 +41,45 @@ pub fn copy(alloc: Global, rows: u32, rounds: u32) -> Result<u64, NoMemory> {
         sum = sum.wrapping_add(first(&copy, turn));
     }
     Ok(sum)
+}
+
+fn changed(map: &mut Rows, change: Change) -> Result<bool, NoMemory> {
+    match change {
+        Change::Update(row) => match map.get_mut(&(group(row), number(row))) {
+            Some(value) => {
+                *value = i64::from(row);
+                Ok(true)
+            }
+            None => Ok(false),
+        },
+        Change::Delete(row) => Ok(map.remove(&(group(row), number(row))).is_some()),
+        Change::Create(row) => {
+            let old = map.insert((group(row), number(row)), i64::from(row))?;
+            Ok(old.is_none())
+        }
+    }
+}
+
+/// What `facts::change` does, over a plain map.
+pub fn change(alloc: Global, rows: u32, rounds: u32) -> Result<u64, NoMemory> {
+    let mut map = filled(alloc, rows)?;
+    let mut sum = 0u64;
+    for turn in 0..rounds {
+        if changed(&mut map, change_of(turn, rows))? {
+            sum = sum.wrapping_add(1);
+        }
+    }
+    Ok(sum)
+}
+
+/// What `facts::chain` does, over a plain map.
+pub fn chain(alloc: Global, rows: u32, rounds: u32) -> Result<u64, NoMemory> {
+    let mut map = filled(alloc, rows)?;
+    for turn in 0..rounds {
+        let mut copy = map.clone()?;
+        let row = rows.wrapping_add(turn);
+        copy.insert((group(row), number(row)), i64::from(row))?;
+        map = copy;
+    }
+    Ok(first(&map, rows))
 }

@@ -1,5 +1,5 @@
 -- Places that are tied, and rows at them.
-use Rattle.std.proofs.Common.{◌≡◌, Bool, true, false, ◌==◌, not, cond, List, [], ◌∷◌, filter, Equal, is_eq, refl, sym, ap, ◌∙◌}
+use Rattle.std.proofs.Common.{◌≡◌, Bool, true, false, ◌==◌, not, cond, List, [], ◌∷◌, filter, refl, sym, ◌∙◌}
 use Rattle.std.proofs.lemmas.Bool.{and_from, and_parts, false_from_ne_true, false≢true}
 use Rattle.std.specs.Cmp.{unsigned_Decides}
 use Rattle.std.specs.List.{list_any}

@@ -1,8 +1,6 @@
 -- What stands at each place tells the rows of layers.
 use Rattle.std.proofs.Common.{◌≡◌, Bool, true, false, not, cond, List, [], ◌∷◌, filter, Option, Some, None, refl, sym, ap, ◌∙◌}
-use Rattle.std.proofs.lemmas.Bool.{and_parts, false≢true, not_from_false}
-use Rattle.std.specs.List.{list_any}
-use Rattle.base_bytes.specs.declared.value.Value.{Value}
+use Rattle.std.proofs.lemmas.Bool.{and_parts, not_from_false}
 use Rattle.fact_store.specs.declared.row.Row.{Row}
 use Rattle.fact_store.specs.declared.wanted.Wanted.{Wanted}
 use Rattle.fact_store.specs.Rows.{are_keys, is_base}

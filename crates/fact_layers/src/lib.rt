@@ -5,6 +5,8 @@ mod folding;
 mod layer;
 mod layered_facts;
 mod layers;
+mod threads;
 mod walk;
 
 pub use layered_facts::LayeredFacts;
+pub use threads::layered_facts_cross_threads;

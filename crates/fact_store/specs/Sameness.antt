@@ -14,7 +14,7 @@ same_layer (Value-F.Bool a) (Value-F.Bool b) = beq a b
 same_layer (Value-F.Str s) (Value-F.Str t) = bytes_eq s t
 same_layer (Value-F.Raw s) (Value-F.Raw t) = bytes_eq s t
 same_layer (Value-F.Ident s) (Value-F.Ident t) = bytes_eq s t
-same_layer (Value-F.Enum item ordinal) (Value-F.Enum other place) = (item == other) && (ordinal == place)
+same_layer (Value-F.Enum item ordinal) (Value-F.Enum other ordinal') = (item == other) && (ordinal == ordinal')
 same_layer (Value-F.Struct item tests) (Value-F.Struct other fields) = (item == other) && pointwise (λ test field. test field) tests fields
 same_layer Value-F.Nothing Value-F.Nothing = true
 same_layer (Value-F.Some test) (Value-F.Some inner) = test inner

@@ -1,8 +1,7 @@
 ghost use Rattle.std.specs.Prelude.{◌≡◌};
-ghost use Rattle.base_bytes.specs.KeyOrder.{key_order, keys_order, variant_place as place_of};
-ghost use Rattle.base_bytes.specs.declared.value.Value.{out-Value};
+ghost use Rattle.base_bytes.specs.KeyOrder.{key_order, keys_order};
 
-use base_bytes::{Value, compare};
+use base_bytes::{Value, compare, variant_place};
 use std::cmp::Ordering;
 
 /// The order of two lists of values: from left to right, a prefix first.
@@ -36,21 +35,5 @@ fn compare_values(value: &Value, other: &Value) -> Ordering
             variant_place(value).cmp(&variant_place(other))
         }
         _ => compare(value, other),
-    }
-}
-
-fn variant_place(value: &Value) -> u8
-    ensures { result ≡ place_of (out-Value value.now) }
-{
-    match value {
-        Value::Int(_) => 0,
-        Value::Bool(_) => 1,
-        Value::Str(_) => 2,
-        Value::Raw(_) => 3,
-        Value::Ident(_) => 4,
-        Value::Enum(_, _) => 5,
-        Value::Struct(_, _) => 6,
-        Value::Nothing => 7,
-        Value::Some(_) => 8,
     }
 }

@@ -1,7 +1,9 @@
 use crate::samples::{Held, Key, Query, Sample, assert_finds, filled};
 use base_bytes::NoMemory;
-use fact_store::Facts;
+use fact_layers::LayeredFacts;
+use fact_store::{FactBase, Facts, WriteFault};
 use std::alloc::Global;
+use std::process::Abort;
 use std::test::*;
 
 /// Rows in fact order, numbered from 0: facts with no key, with one key of each type, and with three keys. Most have their number for a value; row 21 has that of row 19, and those of fact 8 have none, two or three values.
@@ -162,13 +164,19 @@ fn numbered(alloc: Global, samples: &[Sample], numbers: &[usize]) -> Result<Vec<
     Ok(found)
 }
 
+fn assert_queries<F: FactBase>(rt: &impl Abort, alloc: Global) -> Result<(), WriteFault> {
+    let facts: F = filled(alloc, &ROWS)?;
+    for (query, numbers) in CASES {
+        let samples = numbered(alloc, &ROWS, numbers)?;
+        assert_finds(rt, alloc, &facts, query, samples.as_slice())?;
+    }
+    Ok(())
+}
+
 #[test]
 fn queries_find_the_rows_of_their_prefix_in_order(rt: HostRuntime) -> Result<(), Fail> {
     let alloc = rt.alloc();
-    let facts: Facts = filled(alloc, &ROWS)?;
-    for (query, numbers) in CASES {
-        let samples = numbered(alloc, &ROWS, numbers)?;
-        assert_finds(&rt, alloc, &facts, query, samples.as_slice())?;
-    }
+    assert_queries::<Facts>(&rt, alloc)?;
+    assert_queries::<LayeredFacts>(&rt, alloc)?;
     Ok(())
 }

@@ -2,6 +2,7 @@ use crate::samples::{
     Held, Key, Query, Sample, assert_finds, filled, keys_of, row_of, values_of, wanted,
 };
 use base_bytes::NoMemory;
+use fact_layers::LayeredFacts;
 use fact_store::{FactBase, Facts, WriteFault};
 use std::alloc::Global;
 use std::process::Abort;
@@ -227,13 +228,28 @@ fn assert_changes<F: FactBase>(
     assert_holds(rt, alloc, &facts, ones, twos)
 }
 
+fn assert_writes<F: FactBase>(rt: &impl Abort, alloc: Global) -> Result<(), WriteFault> {
+    for case in CASES {
+        let facts: F = filled(alloc, &ROWS)?;
+        assert_changes(rt, alloc, facts, case)?;
+    }
+    Ok(())
+}
+
 #[test]
 fn writes_change_one_row_or_none(rt: HostRuntime) -> Result<(), Fail> {
     let alloc = rt.alloc();
+    assert_writes::<Facts>(&rt, alloc)?;
+    assert_writes::<LayeredFacts>(&rt, alloc)?;
+    Ok(())
+}
+
+fn assert_copies<F: FactBase>(rt: &impl Abort, alloc: Global) -> Result<(), WriteFault> {
+    let facts: F = filled(alloc, &ROWS)?;
     for case in CASES {
-        let facts: Facts = filled(alloc, &ROWS)?;
-        assert_changes(&rt, alloc, facts, case)?;
+        assert_changes(rt, alloc, facts.copy(alloc)?, case)?;
     }
+    assert_holds(rt, alloc, &facts, &[ONE, TWO], &[THREE])?;
     Ok(())
 }
 
@@ -241,25 +257,27 @@ fn writes_change_one_row_or_none(rt: HostRuntime) -> Result<(), Fail> {
 #[test]
 fn a_changed_copy_leaves_the_first(rt: HostRuntime) -> Result<(), Fail> {
     let alloc = rt.alloc();
-    let facts: Facts = filled(alloc, &ROWS)?;
-    for case in CASES {
-        assert_changes(&rt, alloc, facts.copy(alloc)?, case)?;
-    }
-    assert_holds(&rt, alloc, &facts, &[ONE, TWO], &[THREE])?;
+    assert_copies::<Facts>(&rt, alloc)?;
+    assert_copies::<LayeredFacts>(&rt, alloc)?;
     Ok(())
+}
+
+fn assert_begins<F: FactBase>(rt: &impl Abort, alloc: Global) -> Result<(), NoMemory> {
+    let facts = F::empty(alloc);
+    for query in QUERIES_OF_NONE {
+        assert_finds(rt, alloc, &facts, query, &[])?;
+    }
+    for case in CASES_OF_NONE {
+        assert_changes(rt, alloc, facts.copy(alloc)?, case)?;
+        assert_changes(rt, alloc, F::empty(alloc), case)?;
+    }
+    assert_holds(rt, alloc, &facts, &[], &[])
 }
 
 #[test]
 fn a_base_begins_empty(rt: HostRuntime) -> Result<(), Fail> {
     let alloc = rt.alloc();
-    let facts = Facts::empty(alloc);
-    for query in QUERIES_OF_NONE {
-        assert_finds(&rt, alloc, &facts, query, &[])?;
-    }
-    for case in CASES_OF_NONE {
-        assert_changes(&rt, alloc, facts.copy(alloc)?, case)?;
-        assert_changes(&rt, alloc, Facts::empty(alloc), case)?;
-    }
-    assert_holds(&rt, alloc, &facts, &[], &[])?;
+    assert_begins::<Facts>(&rt, alloc)?;
+    assert_begins::<LayeredFacts>(&rt, alloc)?;
     Ok(())
 }

@@ -5,8 +5,13 @@
 mod calls;
 pub mod made;
 #[cfg(test)]
+mod opinions;
+#[cfg(test)]
 mod pairs;
+#[cfg(test)]
+mod plain;
 #[cfg(test)]
 mod rows;
 #[cfg(test)]
 mod tables;
+pub mod writers;

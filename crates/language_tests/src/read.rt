@@ -109,7 +109,10 @@ fn put_fault(page: &mut Page, reading: &Reading) {
 fn put_kinds(page: &mut Page, items: &[PlacedItem]) {
     page.put_count(items.len());
     for kind in KINDS {
-        let count = items.iter().filter(|placed| kind_of(&placed.item) == kind).count();
+        let count = items
+            .iter()
+            .filter(|placed| kind_of(&placed.item) == kind)
+            .count();
         if count > 0 {
             page.put(", ");
             page.put_count(count);

@@ -1,4 +1,4 @@
--- What serves contracts of private functions, and proofs of the traits' laws.
+-- What serves contracts of private functions, views of private fields among it, and proofs of the traits' laws.
 pub mod EnvelopeLaw
 pub mod Count
 pub mod Schedule

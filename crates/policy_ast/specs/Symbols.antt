@@ -18,12 +18,12 @@ symbols Two =
 abbrev pub symbol_of : Version → List ℕ → Option TokenKind
 symbol_of version text = option_map Symbol (position (bytes_eq text) (symbols version))
 
--- the place of a symbol that a version has, and its token
-abbrev pub place : Version → String → ℕ
-place version text = position_or_len (bytes_eq (codes text)) (symbols version)
+-- the index of a symbol in the list of a version, and its token
+abbrev pub symbol_index : Version → String → ℕ
+symbol_index version text = position_or_len (bytes_eq (codes text)) (symbols version)
 
 abbrev pub symbol : Version → String → TokenKind
-symbol version text = Symbol (place version text)
+symbol version text = Symbol (symbol_index version text)
 
 -- the symbol of this text has the token of this number
 abbrev pub IsSymbol : Version → String → ℕ → Type 0

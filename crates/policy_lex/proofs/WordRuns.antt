@@ -1,5 +1,5 @@
 -- The run of word bytes that bytes begin with.
-use Rattle.std.proofs.Common.{◌≡◌, ℕ, ◌<◌, Bool, true, false, cond, List, [], ◌∷◌, length, take, refl, arith, None}
+use Rattle.std.proofs.Common.{◌≡◌, ℕ, ◌<◌, Bool, true, false, cond, List, [], ◌∷◌, length, take, refl, arith}
 use Rattle.std.specs.List.{take_while}
 use Rattle.std.specs.Str.{IsAscii, IsUtf8}
 use Rattle.std.proofs.lemmas.Str.{IsUtf8-from_ascii}
@@ -7,8 +7,7 @@ use Rattle.std.proofs.lemmas.Str.Ascii.{IsAscii-cons, IsAscii-nil}
 use Rattle.std.proofs.lemmas.List.Sums.{take_while-cons}
 use Rattle.std.proofs.lemmas.List.Folds.{length-prefix_len}
 use Rattle.std.proofs.lemmas.Bool.Decides.{nat_tests}
-use Rattle.base_bytes.specs.Words.{begins_with_letter, is_word, is_word_byte}
-use Rattle.policy_ast.specs.TokenForms.{word_at}
+use Rattle.base_bytes.specs.Words.{is_word_byte}
 
 word_byte_is_ascii : (c : ℕ) → is_word_byte c ≡ true → c < 128
 word_byte_is_ascii c is = grind (arith, nat_tests)
@@ -24,13 +23,3 @@ run_is_ascii (c ∷ bytes) = rw (take_while-cons is_word_byte c bytes) (more_asc
 -- the run that bytes begin with is a text
 pub run_is_text : (bytes : List ℕ) → IsUtf8 (take (length (take_while is_word_byte bytes)) bytes)
 run_is_text bytes = rw (length-prefix_len is_word_byte bytes) (IsUtf8-from_ascii (take_while is_word_byte bytes) (run_is_ascii bytes))
-
-no_run : (b : Bool) (c : ℕ) (cs : List ℕ) → begins_with_letter (c ∷ cs) ≡ false → is_word (cond b (c ∷ cs) []) ≡ false
-no_run true c cs is = rw is refl
-no_run false c cs is = refl
-
--- where no letter stands first, no word does
-pub no_word : (bytes : List ℕ) → begins_with_letter bytes ≡ false → word_at bytes ≡ None
-unfolding word_at
-no_word [] is = refl
-no_word (c ∷ bytes) is = rw (take_while-cons is_word_byte c bytes, no_run (is_word_byte c) c (take_while is_word_byte bytes) is) refl

@@ -14,8 +14,8 @@ const MOST: u64 = 9223372036854775808;
 #[tactic(auto, unfolding(policy_ast::specs::TokenForms::number_at))]
 pub fn number_at(bytes: &[u8]) -> Option<(TokenKind, usize)>
     ensures number { result ≡ number_at bytes.now }
-    ensures some { IfSome result (λ piece. 0 < piece.1) }
-    ensures within { IfSome result (λ piece. piece.1 ≤ length bytes.now) }
+    ensures some { IfSome result (λ token. 0 < token.1) }
+    ensures within { IfSome result (λ token. token.1 ≤ length bytes.now) }
 {
     if bytes.starts_with(b"-") {
         number_behind(true, 1, &bytes[1..])
@@ -28,8 +28,8 @@ pub fn number_at(bytes: &[u8]) -> Option<(TokenKind, usize)>
 fn number_behind(is_negative: bool, sign: usize, bytes: &[u8]) -> Option<(TokenKind, usize)>
     requires { sign ≤ 1 }
     ensures number { result ≡ number_behind is_negative sign bytes.now }
-    ensures some { IfSome result (λ piece. 0 < piece.1) }
-    ensures within { IfSome result (λ piece. piece.1 ≤ sign + length bytes.now) }
+    ensures some { IfSome result (λ token. 0 < token.1) }
+    ensures within { IfSome result (λ token. token.1 ≤ sign + length bytes.now) }
 {
     let digits = digits_of(bytes);
     if digits.is_empty() {

@@ -12,8 +12,8 @@ use std::alloc::Global;
 pub fn quoted_at(alloc: Global, bytes: &[u8]) -> Result<Option<(TokenKind, usize)>, NoMemory>
     requires { HoldsText bytes.now }
     ensures text { IfOk result (λ o. o ≡ quoted_at bytes.now) }
-    ensures some { IfOk result (λ o. IfSome o (λ piece. 0 < piece.1)) }
-    ensures within { IfOk result (λ o. IfSome o (λ piece. piece.1 ≤ length bytes.now)) }
+    ensures some { IfOk result (λ o. IfSome o (λ token. 0 < token.1)) }
+    ensures within { IfOk result (λ o. IfSome o (λ token. token.1 ≤ length bytes.now)) }
 {
     let Some(rest) = behind(b"\"", bytes) else {
         return Ok(None);

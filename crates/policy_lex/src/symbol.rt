@@ -16,8 +16,8 @@ const SYMBOLS: [&str; 24] = [
 pub fn symbol_at(version: Version, bytes: &[u8]) -> Option<(TokenKind, usize)>
     requires { 0 < length bytes.now }
     ensures symbol { result ≡ symbol_at version bytes.now }
-    ensures some { IfSome result (λ piece. 0 < piece.1) }
-    ensures within { IfSome result (λ piece. piece.1 ≤ length bytes.now) }
+    ensures some { IfSome result (λ token. 0 < token.1) }
+    ensures within { IfSome result (λ token. token.1 ≤ length bytes.now) }
 {
     sized_symbol(version, first_bytes(bytes, 2)).or(sized_symbol(version, first_bytes(bytes, 1)))
 }
@@ -37,7 +37,7 @@ fn first_bytes(bytes: &[u8], count: usize) -> &[u8]
 
 fn sized_symbol(version: Version, spelled: &[u8]) -> Option<(TokenKind, usize)>
     ensures symbol { result ≡ sized_symbol version spelled.now }
-    ensures size { IfSome result (λ piece. piece.1 ≡ length spelled.now) }
+    ensures size { IfSome result (λ token. token.1 ≡ length spelled.now) }
 {
     let place = symbol_place(version, spelled)?;
     Some((TokenKind::Symbol(place), spelled.len()))

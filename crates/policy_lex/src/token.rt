@@ -19,8 +19,8 @@ pub fn token_at(
     requires some { 0 < length bytes.now }
     requires text { HoldsText bytes.now }
     ensures token { IfOk result (λ o. o ≡ token_at version bytes.now) }
-    ensures some { IfOk result (λ o. IfSome o (λ piece. 0 < piece.1)) }
-    ensures within { IfOk result (λ o. IfSome o (λ piece. piece.1 ≤ length bytes.now)) }
+    ensures some { IfOk result (λ o. IfSome o (λ token. 0 < token.1)) }
+    ensures within { IfOk result (λ o. IfSome o (λ token. token.1 ≤ length bytes.now)) }
 {
     if let Some(word) = word_at(alloc, bytes)? {
         return Ok(Some(word));

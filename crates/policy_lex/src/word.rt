@@ -1,18 +1,18 @@
 ghost use Rattle.std.specs.Prelude.{◌≡◌, ◌<◌, ◌≤◌, IfOk, IfSome, length};
 ghost use Rattle.std.specs.List.{take_while};
-ghost use Rattle.base_bytes.specs.Words.{begins_with_letter, is_word_byte};
+ghost use Rattle.base_bytes.specs.Words.{is_word_byte};
 ghost use Rattle.policy_ast.specs.TokenForms.{word_at};
 
-use base_bytes::{NoMemory, Text, is_word};
+use base_bytes::{NoMemory, Text, begins_with_letter, is_word};
 use policy_ast::TokenKind;
 use std::alloc::Global;
 
 /// The word that bytes begin with, and how many bytes it takes.
-#[tactic(auto, using(crate::proofs::WordRuns::no_word))]
+#[tactic(auto, using(policy_ast::proofs::TokenPrefixes::no_word))]
 pub fn word_at(alloc: Global, bytes: &[u8]) -> Result<Option<(TokenKind, usize)>, NoMemory>
     ensures word { IfOk result (λ o. o ≡ word_at bytes.now) }
-    ensures some { IfOk result (λ o. IfSome o (λ piece. 0 < piece.1)) }
-    ensures within { IfOk result (λ o. IfSome o (λ piece. piece.1 ≤ length bytes.now)) }
+    ensures some { IfOk result (λ o. IfSome o (λ token. 0 < token.1)) }
+    ensures within { IfOk result (λ o. IfSome o (λ token. token.1 ≤ length bytes.now)) }
 {
     if begins_with_letter(bytes) {
         run_at(alloc, bytes)
@@ -21,21 +21,12 @@ pub fn word_at(alloc: Global, bytes: &[u8]) -> Result<Option<(TokenKind, usize)>
     }
 }
 
-fn begins_with_letter(bytes: &[u8]) -> bool
-    ensures { result ≡ begins_with_letter bytes.now }
-{
-    match bytes {
-        [first, ..] => first.is_ascii_alphabetic(),
-        [] => false,
-    }
-}
-
 /// The same where the run that bytes begin with is read whole.
 #[tactic(auto, unfolding(policy_ast::specs::TokenForms::word_at))]
 fn run_at(alloc: Global, bytes: &[u8]) -> Result<Option<(TokenKind, usize)>, NoMemory>
     ensures word { IfOk result (λ o. o ≡ word_at bytes.now) }
-    ensures some { IfOk result (λ o. IfSome o (λ piece. 0 < piece.1)) }
-    ensures within { IfOk result (λ o. IfSome o (λ piece. piece.1 ≤ length bytes.now)) }
+    ensures some { IfOk result (λ o. IfSome o (λ token. 0 < token.1)) }
+    ensures within { IfOk result (λ o. IfSome o (λ token. token.1 ≤ length bytes.now)) }
 {
     let run = &bytes[..word_length(bytes)];
     if !is_word(run) {

@@ -1,21 +1,22 @@
-//! Expressions down to their signs. Each function gives what the tokens begin with and the tokens behind it, or None where
-//! they don't begin so. `depth` is how high the node may be, and `limit` how high parts may be that are no nodes of their
+//! Expressions down to their signs. Each function gives what the tokens begin with and the tokens behind it, and refuses
+//! where they don't begin so. `depth` is how high the node may be, and `limit` how high parts may be that are no nodes of their
 //! own.
 
-ghost use Rattle.std.specs.Prelude.{◌≡◌, ◌<◌, ◌-◌, IfOk, length, suc};
+ghost use Rattle.std.specs.Prelude.{◌<◌, ◌-◌, length, suc};
 ghost use Rattle.policy_ast.specs.declared.expr.Expr.TheVariants.{And, Or};
 ghost use Rattle.policy_ast.specs.grammar.Expressions.{conditional, operand, whole};
 ghost use Rattle.policy_ast.specs.grammar.Fixed.{and, or};
 ghost use Rattle.policy_ast.specs.grammar.Policies.{kinds};
 ghost use Rattle.policy_ast.proofs.grammar.Reading.{chain, node_added};
 ghost use Rattle.policy_ast.proofs.grammar.ReadingExpressions.{and_over, compared_over, comparison_over, or_over, read_expr, unary_over};
-ghost use Rattle.policy_parse.specs.Seen.{seen};
+ghost use Rattle.policy_parse.specs.working.Reads.{Reads, part_read};
 
-use crate::if_expressions::choice;
+use crate::if_expressions::if_expression;
 use crate::operators;
-use crate::parts::{Found, dots, expr_built, higher};
+use crate::parts::{Parsed, dots, higher, node};
 use crate::primaries::primary;
-use crate::tokens::{after, after_word};
+use crate::tokens::{after, after_word, expect_word};
+use crate::unparsed::Unparsed;
 use policy_ast::{Expr, Name, Part, Token, symbols};
 use sqlite_items::Boxed;
 use std::alloc::Global;
@@ -28,11 +29,11 @@ pub fn expression<'a>(
     depth: usize,
     is_head: bool,
     tokens: &'a [Token],
-) -> Found<'a, Boxed<Expr>>
-    ensures { IfOk result (λ o. seen o ≡ read_expr depth (whole is_head) (kinds tokens.now)) }
+) -> Parsed<'a, Boxed<Expr>>
+    ensures { Reads part_read result (read_expr depth (whole is_head) (kinds tokens.now)) }
 {
     if depth == 0 {
-        return Ok(None);
+        return Err(Unparsed::NoMatch);
     }
     disjunction(alloc, depth, is_head, tokens)
 }
@@ -45,11 +46,11 @@ fn operand<'a>(
     depth: usize,
     is_head: bool,
     tokens: &'a [Token],
-) -> Found<'a, Boxed<Expr>>
-    ensures { IfOk result (λ o. seen o ≡ read_expr depth (operand is_head) (kinds tokens.now)) }
+) -> Parsed<'a, Boxed<Expr>>
+    ensures { Reads part_read result (read_expr depth (operand is_head) (kinds tokens.now)) }
 {
     if depth == 0 {
-        return Ok(None);
+        return Err(Unparsed::NoMatch);
     }
     unary(alloc, depth, is_head, tokens)
 }
@@ -57,16 +58,18 @@ fn operand<'a>(
 /// The `if` that follows an `else`.
 #[tactic(auto, using(crate::proofs::Steps::expr_step, crate::proofs::Steps::expr_none))]
 #[cycle(expr)]
-pub fn else_if<'a>(alloc: Global, depth: usize, tokens: &'a [Token]) -> Found<'a, Boxed<Expr>>
-    ensures { IfOk result (λ o. seen o ≡ read_expr depth conditional (kinds tokens.now)) }
+pub fn else_if_expression<'a>(
+    alloc: Global,
+    depth: usize,
+    tokens: &'a [Token],
+) -> Parsed<'a, Boxed<Expr>>
+    ensures { Reads part_read result (read_expr depth conditional (kinds tokens.now)) }
 {
     if depth == 0 {
-        return Ok(None);
+        return Err(Unparsed::NoMatch);
     }
-    let Some(rest) = after_word("if", tokens) else {
-        return Ok(None);
-    };
-    choice(alloc, depth, rest)
+    let rest = expect_word("if", tokens)?;
+    if_expression(alloc, depth, rest)
 }
 
 /// Operands of `||`
@@ -76,16 +79,15 @@ fn disjunction<'a>(
     depth: usize,
     is_head: bool,
     tokens: &'a [Token],
-) -> Found<'a, Boxed<Expr>>
+) -> Parsed<'a, Boxed<Expr>>
     requires { 0 < depth }
-    ensures { IfOk result (λ o. seen o ≡ or_over (read_expr (depth - 1)) (depth - 1) is_head (kinds tokens.now)) }
+    ensures { Reads part_read result (or_over (read_expr (depth - 1)) (depth - 1) is_head (kinds tokens.now)) }
 {
-    let Some((first, rest)) = conjunction(alloc, depth, is_head, tokens)? else {
-        return Ok(None);
-    };
+    let (first, rest) = conjunction(alloc, depth, is_head, tokens)?;
     or_more(alloc, depth, is_head, first, rest)
 }
 
+#[tactic(auto, using(crate::proofs::Turns::chain_turn, crate::proofs::Turns::chain_full))]
 #[cycle(expr)]
 fn or_more<'a>(
     alloc: Global,
@@ -93,30 +95,26 @@ fn or_more<'a>(
     is_head: bool,
     first: Part<Boxed<Expr>>,
     tokens: &'a [Token],
-) -> Found<'a, Boxed<Expr>>
+) -> Parsed<'a, Boxed<Expr>>
     requires { 0 < depth }
-    ensures { IfOk result (λ o. seen o ≡ chain or (node_added (suc (depth - 1)) Or) (and_over (read_expr (depth - 1)) (depth - 1) is_head) (length tokens.now) first (kinds tokens.now)) }
+    ensures { Reads part_read result (chain or (node_added (suc (depth - 1)) Or) (and_over (read_expr (depth - 1)) (depth - 1) is_head) (length tokens.now) first (kinds tokens.now)) }
 {
     let mut whole = first;
     let mut rest = tokens;
-    let mut left = tokens.len();
+    let mut turns = tokens.len();
     while let Some(behind) = after(symbols::OR, rest) {
-        if left == 0 {
-            return Ok(None);
+        if turns == 0 {
+            return Err(Unparsed::NoMatch);
         }
-        left -= 1;
-        let Some((next, behind)) = conjunction(alloc, depth, is_head, behind)? else {
-            return Ok(None);
-        };
+        turns -= 1;
+        let (next, behind) = conjunction(alloc, depth, is_head, behind)?;
         let height = higher(whole.height, next.height);
         let tree = Expr::Or(whole.tree, next.tree);
-        let Some((both, behind)) = expr_built(alloc, depth, tree, height, behind)? else {
-            return Ok(None);
-        };
+        let (both, behind) = node(alloc, depth, tree, height, behind)?;
         whole = both;
         rest = behind;
     }
-    Ok(Some((whole, rest)))
+    Ok((whole, rest))
 }
 
 /// Operands of `&&`
@@ -126,16 +124,15 @@ fn conjunction<'a>(
     depth: usize,
     is_head: bool,
     tokens: &'a [Token],
-) -> Found<'a, Boxed<Expr>>
+) -> Parsed<'a, Boxed<Expr>>
     requires { 0 < depth }
-    ensures { IfOk result (λ o. seen o ≡ and_over (read_expr (depth - 1)) (depth - 1) is_head (kinds tokens.now)) }
+    ensures { Reads part_read result (and_over (read_expr (depth - 1)) (depth - 1) is_head (kinds tokens.now)) }
 {
-    let Some((first, rest)) = comparison(alloc, depth, is_head, tokens)? else {
-        return Ok(None);
-    };
+    let (first, rest) = comparison(alloc, depth, is_head, tokens)?;
     and_more(alloc, depth, is_head, first, rest)
 }
 
+#[tactic(auto, using(crate::proofs::Turns::chain_turn, crate::proofs::Turns::chain_full))]
 #[cycle(expr)]
 fn and_more<'a>(
     alloc: Global,
@@ -143,30 +140,26 @@ fn and_more<'a>(
     is_head: bool,
     first: Part<Boxed<Expr>>,
     tokens: &'a [Token],
-) -> Found<'a, Boxed<Expr>>
+) -> Parsed<'a, Boxed<Expr>>
     requires { 0 < depth }
-    ensures { IfOk result (λ o. seen o ≡ chain and (node_added (suc (depth - 1)) And) (comparison_over (read_expr (depth - 1)) (depth - 1) is_head) (length tokens.now) first (kinds tokens.now)) }
+    ensures { Reads part_read result (chain and (node_added (suc (depth - 1)) And) (comparison_over (read_expr (depth - 1)) (depth - 1) is_head) (length tokens.now) first (kinds tokens.now)) }
 {
     let mut whole = first;
     let mut rest = tokens;
-    let mut left = tokens.len();
+    let mut turns = tokens.len();
     while let Some(behind) = after(symbols::AND, rest) {
-        if left == 0 {
-            return Ok(None);
+        if turns == 0 {
+            return Err(Unparsed::NoMatch);
         }
-        left -= 1;
-        let Some((next, behind)) = comparison(alloc, depth, is_head, behind)? else {
-            return Ok(None);
-        };
+        turns -= 1;
+        let (next, behind) = comparison(alloc, depth, is_head, behind)?;
         let height = higher(whole.height, next.height);
         let tree = Expr::And(whole.tree, next.tree);
-        let Some((both, behind)) = expr_built(alloc, depth, tree, height, behind)? else {
-            return Ok(None);
-        };
+        let (both, behind) = node(alloc, depth, tree, height, behind)?;
         whole = both;
         rest = behind;
     }
-    Ok(Some((whole, rest)))
+    Ok((whole, rest))
 }
 
 /// One operand, two that are compared, or one that is tested by `is`
@@ -176,13 +169,11 @@ fn comparison<'a>(
     depth: usize,
     is_head: bool,
     tokens: &'a [Token],
-) -> Found<'a, Boxed<Expr>>
+) -> Parsed<'a, Boxed<Expr>>
     requires { 0 < depth }
-    ensures { IfOk result (λ o. seen o ≡ comparison_over (read_expr (depth - 1)) (depth - 1) is_head (kinds tokens.now)) }
+    ensures { Reads part_read result (comparison_over (read_expr (depth - 1)) (depth - 1) is_head (kinds tokens.now)) }
 {
-    let Some((first, rest)) = unary(alloc, depth, is_head, tokens)? else {
-        return Ok(None);
-    };
+    let (first, rest) = unary(alloc, depth, is_head, tokens)?;
     compared(alloc, depth, is_head, first, rest)
 }
 
@@ -194,25 +185,21 @@ fn compared<'a>(
     is_head: bool,
     first: Part<Boxed<Expr>>,
     tokens: &'a [Token],
-) -> Found<'a, Boxed<Expr>>
+) -> Parsed<'a, Boxed<Expr>>
     requires { 0 < depth }
-    ensures { IfOk result (λ o. seen o ≡ compared_over (read_expr (depth - 1)) (depth - 1) is_head first (kinds tokens.now)) }
+    ensures { Reads part_read result (compared_over (read_expr (depth - 1)) (depth - 1) is_head first (kinds tokens.now)) }
 {
-    if let Some((operator, rest)) = operators::comparison(tokens) {
-        let Some((second, rest)) = unary(alloc, depth, is_head, rest)? else {
-            return Ok(None);
-        };
+    if let Some((operator, rest)) = operators::comparison_operator(tokens) {
+        let (second, rest) = unary(alloc, depth, is_head, rest)?;
         let height = higher(first.height, second.height);
         let tree = Expr::Compare(first.tree, operator, second.tree);
-        return expr_built(alloc, depth, tree, height, rest);
+        return node(alloc, depth, tree, height, rest);
     }
     let Some(rest) = after_word("is", tokens) else {
-        return Ok(Some((first, tokens)));
+        return Ok((first, tokens));
     };
-    let Some((presence, rest)) = operators::presence(rest) else {
-        return Ok(None);
-    };
-    expr_built(
+    let (presence, rest) = operators::presence(rest)?;
+    node(
         alloc,
         depth,
         Expr::Is(first.tree, presence),
@@ -228,15 +215,13 @@ fn unary<'a>(
     depth: usize,
     is_head: bool,
     tokens: &'a [Token],
-) -> Found<'a, Boxed<Expr>>
+) -> Parsed<'a, Boxed<Expr>>
     requires { 0 < depth }
-    ensures { IfOk result (λ o. seen o ≡ unary_over (read_expr (depth - 1)) (depth - 1) is_head (kinds tokens.now)) }
+    ensures { Reads part_read result (unary_over (read_expr (depth - 1)) (depth - 1) is_head (kinds tokens.now)) }
 {
     if let Some((sign, rest)) = operators::sign(tokens) {
-        let Some((inner, rest)) = operand(alloc, depth - 1, is_head, rest)? else {
-            return Ok(None);
-        };
-        return expr_built(
+        let (inner, rest) = operand(alloc, depth - 1, is_head, rest)?;
+        return node(
             alloc,
             depth,
             Expr::Unary(sign, inner.tree),
@@ -244,8 +229,6 @@ fn unary<'a>(
             rest,
         );
     }
-    let Some((first, rest)) = primary(alloc, depth, is_head, tokens)? else {
-        return Ok(None);
-    };
+    let (first, rest) = primary(alloc, depth, is_head, tokens)?;
     dots(alloc, depth, first, rest)
 }

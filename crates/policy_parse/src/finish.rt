@@ -1,17 +1,14 @@
 //! Statements of finish blocks and of finish functions.
 
-ghost use Rattle.std.specs.Prelude.{◌≡◌, IfOk};
-ghost use Rattle.policy_ast.specs.grammar.Fixed.{close_brace};
 ghost use Rattle.policy_ast.specs.grammar.Policies.{kinds};
-ghost use Rattle.policy_ast.proofs.grammar.Reading.{many};
-ghost use Rattle.policy_ast.proofs.grammar.ReadingStatements.{read_create, read_delete, read_finish_block, read_finish_call, read_finish_stmt, read_update};
-ghost use Rattle.policy_parse.specs.Seen.{seen};
+ghost use Rattle.policy_ast.proofs.grammar.ReadingStatements.{read_create, read_delete, read_finish_block, read_finish_call, read_update};
+ghost use Rattle.policy_parse.specs.working.Reads.{Reads, part_read};
 
 use crate::expressions::expression;
-use crate::parts::{Found, built, higher};
+use crate::lists::{Member, many};
+use crate::parts::{Parsed, built, higher};
 use crate::patterns::{arguments, binds, pattern};
-use crate::tokens::{after, after_word, name};
-use base_bytes::NoMemory;
+use crate::tokens::{after_word, expect, expect_word, name};
 use policy_ast::{FinishStmt, Part, Token, symbols};
 use sqlite_items::Items;
 use std::alloc::Global;
@@ -19,162 +16,99 @@ use std::alloc::Global;
 /// `{ .. }`
 pub fn finish_block<'a>(
     alloc: Global,
-    depth: usize,
+    limit: usize,
     tokens: &'a [Token],
-) -> Found<'a, Items<FinishStmt>>
-    ensures { IfOk result (λ o. seen o ≡ read_finish_block depth (kinds tokens.now)) }
+) -> Parsed<'a, Items<FinishStmt>>
+    ensures { Reads part_read result (read_finish_block limit (kinds tokens.now)) }
 {
-    match after(symbols::OPEN_BRACE, tokens) {
-        Some(rest) => finish_stmts(alloc, depth, rest),
-        None => Ok(None),
-    }
+    let rest = expect(symbols::OPEN_BRACE, tokens)?;
+    many(alloc, limit, symbols::CLOSE_BRACE, rest)
 }
 
-/// Statements and the brace that closes them
-fn finish_stmts<'a>(
-    alloc: Global,
-    depth: usize,
-    tokens: &'a [Token],
-) -> Found<'a, Items<FinishStmt>>
-    ensures { IfOk result (λ o. seen o ≡ many close_brace (read_finish_stmt depth) (kinds tokens.now)) }
-{
-    let mut found = Items::new(alloc);
-    let mut height = 0;
-    let mut rest = tokens;
-    for _ in 0..tokens.len() {
-        if let Some(behind) = after(symbols::CLOSE_BRACE, rest) {
-            return Ok(Some((
-                Part {
-                    tree: found,
-                    height,
-                },
-                behind,
-            )));
+impl Member for FinishStmt {
+    ghost use Rattle.policy_ast.proofs.grammar.ReadingStatements.{read_finish_stmt};
+
+    ghost reads = { read_finish_stmt };
+
+    #[tactic(auto, unfolding(policy_ast::proofs::grammar::ReadingStatements::read_finish_stmt))]
+    fn read<'a>(alloc: Global, limit: usize, tokens: &'a [Token]) -> Parsed<'a, FinishStmt> {
+        if let Some(rest) = after_word("create", tokens) {
+            return create(alloc, limit, rest);
         }
-        let Some((one, behind)) = finish_stmt(alloc, depth, rest)? else {
-            return Ok(None);
-        };
-        height = higher(height, one.height);
-        found.push(one.tree)?;
-        rest = behind;
+        if let Some(rest) = after_word("update", tokens) {
+            return update(alloc, limit, rest);
+        }
+        if let Some(rest) = after_word("delete", tokens) {
+            return delete(alloc, limit, rest);
+        }
+        if let Some(rest) = after_word("emit", tokens) {
+            let (found, rest) = expression(alloc, limit, false, rest)?;
+            let height = found.height;
+            let tree = FinishStmt::Emit(found.tree.into_inner());
+            return built(limit, tree, height, rest);
+        }
+        call(alloc, limit, tokens)
     }
-    Ok(None)
-}
-
-#[tactic(auto, unfolding(policy_ast::proofs::grammar::ReadingStatements::read_finish_stmt))]
-fn finish_stmt<'a>(alloc: Global, depth: usize, tokens: &'a [Token]) -> Found<'a, FinishStmt>
-    ensures { IfOk result (λ o. seen o ≡ read_finish_stmt depth (kinds tokens.now)) }
-{
-    if let Some(rest) = after_word("create", tokens) {
-        return create(alloc, depth, rest);
-    }
-    if let Some(rest) = after_word("update", tokens) {
-        return update(alloc, depth, rest);
-    }
-    if let Some(rest) = after_word("delete", tokens) {
-        return delete(alloc, depth, rest);
-    }
-    if let Some(rest) = after_word("emit", tokens) {
-        let Some((found, rest)) = expression(alloc, depth, false, rest)? else {
-            return Ok(None);
-        };
-        let height = found.height;
-        let tree = FinishStmt::Emit(found.tree.into_inner());
-        return Ok(built(depth, tree, height, rest));
-    }
-    call(alloc, depth, tokens)
 }
 
 /// What follows `create`: `Fact[key: expr, ..]=>{value: expr, ..}`
-fn create<'a>(alloc: Global, depth: usize, tokens: &'a [Token]) -> Found<'a, FinishStmt>
-    ensures { IfOk result (λ o. seen o ≡ read_create depth (kinds tokens.now)) }
+fn create<'a>(alloc: Global, limit: usize, tokens: &'a [Token]) -> Parsed<'a, FinishStmt>
+    ensures { Reads part_read result (read_create limit (kinds tokens.now)) }
 {
-    let Some((fact, rest)) = name(alloc, tokens)? else {
-        return Ok(None);
-    };
-    let Some(rest) = after(symbols::OPEN_BRACKET, rest) else {
-        return Ok(None);
-    };
-    let Some((keys, rest)) = binds(alloc, depth, symbols::CLOSE_BRACKET, rest)? else {
-        return Ok(None);
-    };
-    let Some(rest) = after(symbols::ARROW, rest) else {
-        return Ok(None);
-    };
-    let Some(rest) = after(symbols::OPEN_BRACE, rest) else {
-        return Ok(None);
-    };
-    let Some((values, rest)) = binds(alloc, depth, symbols::CLOSE_BRACE, rest)? else {
-        return Ok(None);
-    };
+    let (fact, rest) = name(alloc, tokens)?;
+    let rest = expect(symbols::OPEN_BRACKET, rest)?;
+    let (keys, rest) = binds(alloc, limit, symbols::CLOSE_BRACKET, rest)?;
+    let rest = expect(symbols::ARROW, rest)?;
+    let rest = expect(symbols::OPEN_BRACE, rest)?;
+    let (values, rest) = binds(alloc, limit, symbols::CLOSE_BRACE, rest)?;
     let height = higher(keys.height, values.height);
     let tree = FinishStmt::Create {
         fact,
         keys: keys.tree,
         values: values.tree,
     };
-    Ok(built(depth, tree, height, rest))
+    built(limit, tree, height, rest)
 }
 
 /// What follows `update`: a pattern, `to` and `{value: expr, ..}`
-fn update<'a>(alloc: Global, depth: usize, tokens: &'a [Token]) -> Found<'a, FinishStmt>
-    ensures { IfOk result (λ o. seen o ≡ read_update depth (kinds tokens.now)) }
+fn update<'a>(alloc: Global, limit: usize, tokens: &'a [Token]) -> Parsed<'a, FinishStmt>
+    ensures { Reads part_read result (read_update limit (kinds tokens.now)) }
 {
-    let Some((from, rest)) = pattern(alloc, depth, tokens)? else {
-        return Ok(None);
-    };
-    let Some(rest) = after_word("to", rest) else {
-        return Ok(None);
-    };
-    let Some(rest) = after(symbols::OPEN_BRACE, rest) else {
-        return Ok(None);
-    };
-    let Some((to, rest)) = binds(alloc, depth, symbols::CLOSE_BRACE, rest)? else {
-        return Ok(None);
-    };
+    let (from, rest) = pattern(alloc, limit, tokens)?;
+    let rest = expect_word("to", rest)?;
+    let rest = expect(symbols::OPEN_BRACE, rest)?;
+    let (to, rest) = binds(alloc, limit, symbols::CLOSE_BRACE, rest)?;
     let height = higher(from.height, to.height);
     let tree = FinishStmt::Update {
         from: from.tree,
         to: to.tree,
     };
-    Ok(built(depth, tree, height, rest))
+    built(limit, tree, height, rest)
 }
 
 /// What follows `delete`: `Fact[key: expr, ..]`
-fn delete<'a>(alloc: Global, depth: usize, tokens: &'a [Token]) -> Found<'a, FinishStmt>
-    ensures { IfOk result (λ o. seen o ≡ read_delete depth (kinds tokens.now)) }
+fn delete<'a>(alloc: Global, limit: usize, tokens: &'a [Token]) -> Parsed<'a, FinishStmt>
+    ensures { Reads part_read result (read_delete limit (kinds tokens.now)) }
 {
-    let Some((fact, rest)) = name(alloc, tokens)? else {
-        return Ok(None);
-    };
-    let Some(rest) = after(symbols::OPEN_BRACKET, rest) else {
-        return Ok(None);
-    };
-    let Some((keys, rest)) = binds(alloc, depth, symbols::CLOSE_BRACKET, rest)? else {
-        return Ok(None);
-    };
+    let (fact, rest) = name(alloc, tokens)?;
+    let rest = expect(symbols::OPEN_BRACKET, rest)?;
+    let (keys, rest) = binds(alloc, limit, symbols::CLOSE_BRACKET, rest)?;
     let height = keys.height;
     let tree = FinishStmt::Delete {
         fact,
         keys: keys.tree,
     };
-    Ok(built(depth, tree, height, rest))
+    built(limit, tree, height, rest)
 }
 
 /// A call of a finish function
-fn call<'a>(alloc: Global, depth: usize, tokens: &'a [Token]) -> Found<'a, FinishStmt>
-    ensures { IfOk result (λ o. seen o ≡ read_finish_call depth (kinds tokens.now)) }
+fn call<'a>(alloc: Global, limit: usize, tokens: &'a [Token]) -> Parsed<'a, FinishStmt>
+    ensures { Reads part_read result (read_finish_call limit (kinds tokens.now)) }
 {
-    let Some((callee, rest)) = name(alloc, tokens)? else {
-        return Ok(None);
-    };
-    let Some(rest) = after(symbols::OPEN_PAREN, rest) else {
-        return Ok(None);
-    };
-    let Some((found, rest)) = arguments(alloc, depth, rest)? else {
-        return Ok(None);
-    };
+    let (callee, rest) = name(alloc, tokens)?;
+    let rest = expect(symbols::OPEN_PAREN, rest)?;
+    let (found, rest) = arguments(alloc, limit, rest)?;
     let height = found.height;
     let tree = FinishStmt::Call(callee, found.tree);
-    Ok(built(depth, tree, height, rest))
+    built(limit, tree, height, rest)
 }

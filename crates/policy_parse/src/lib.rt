@@ -6,6 +6,7 @@ mod expressions;
 mod finish;
 mod if_expressions;
 mod items;
+mod lists;
 mod literals;
 mod operators;
 mod parts;
@@ -16,5 +17,6 @@ mod sections;
 mod statements;
 mod tokens;
 mod types;
+mod unparsed;
 
 pub use policy::{SyntaxFault, parse};

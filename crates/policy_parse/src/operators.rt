@@ -1,18 +1,19 @@
 //! Operators, and the words that are used like them.
 
-ghost use Rattle.std.specs.Prelude.{◌≡◌};
-ghost use Rattle.policy_ast.specs.grammar.Fixed.{arithmetic_token, comparison_token, count_token, presence_token, sign_token};
+ghost use Rattle.std.specs.Prelude.{◌≡◌, option_map};
+ghost use Rattle.policy_ast.specs.grammar.Fixed.{arithmetic_token, comparison_token, count_token, presence_token, unary_token};
 ghost use Rattle.policy_ast.specs.grammar.Policies.{kinds};
 ghost use Rattle.policy_ast.proofs.grammar.Reading.{operator};
 ghost use Rattle.policy_ast.proofs.grammar.ReadingExpressions.{arithmetics, comparisons, counts, presences, signs};
-ghost use Rattle.policy_parse.specs.Seen.{operator_seen};
+ghost use Rattle.policy_parse.specs.working.Reads.{Reads, operator_read};
 
-use crate::tokens::{after, after_word};
+use crate::tokens::{after, after_word, expect_word};
+use crate::unparsed::Unparsed;
 use policy_ast::{Arithmetic, Comparison, Count, Presence, Token, Unary, symbols};
 
 /// The comparison that is the first token, and the tokens behind it.
-pub fn comparison(tokens: &[Token]) -> Option<(Comparison, &[Token])>
-    ensures { operator_seen result ≡ operator comparison_token comparisons (kinds tokens.now) }
+pub fn comparison_operator(tokens: &[Token]) -> Option<(Comparison, &[Token])>
+    ensures { option_map operator_read result ≡ operator comparison_token comparisons (kinds tokens.now) }
 {
     if let Some(rest) = after(symbols::EQUAL, tokens) {
         return Some((Comparison::Equal, rest));
@@ -36,21 +37,19 @@ pub fn comparison(tokens: &[Token]) -> Option<(Comparison, &[Token])>
 }
 
 /// What stands behind `is`.
-pub fn presence(tokens: &[Token]) -> Option<(Presence, &[Token])>
-    ensures { operator_seen result ≡ operator presence_token presences (kinds tokens.now) }
+pub fn presence(tokens: &[Token]) -> Result<(Presence, &[Token]), Unparsed>
+    ensures { Reads operator_read result (operator presence_token presences (kinds tokens.now)) }
 {
     if let Some(rest) = after_word("Some", tokens) {
-        return Some((Presence::Some, rest));
+        return Ok((Presence::Some, rest));
     }
-    if let Some(rest) = after_word("None", tokens) {
-        return Some((Presence::None, rest));
-    }
-    None
+    let rest = expect_word("None", tokens)?;
+    Ok((Presence::None, rest))
 }
 
 /// The sign before an operand.
 pub fn sign(tokens: &[Token]) -> Option<(Unary, &[Token])>
-    ensures { operator_seen result ≡ operator sign_token signs (kinds tokens.now) }
+    ensures { option_map operator_read result ≡ operator unary_token signs (kinds tokens.now) }
 {
     if let Some(rest) = after(symbols::NOT, tokens) {
         return Some((Unary::Not, rest));
@@ -65,8 +64,8 @@ pub fn sign(tokens: &[Token]) -> Option<(Unary, &[Token])>
 }
 
 /// The operation on two numbers whose word is the first token.
-pub fn arithmetic(tokens: &[Token]) -> Option<(Arithmetic, &[Token])>
-    ensures { operator_seen result ≡ operator arithmetic_token arithmetics (kinds tokens.now) }
+pub fn arithmetic_operator(tokens: &[Token]) -> Option<(Arithmetic, &[Token])>
+    ensures { option_map operator_read result ≡ operator arithmetic_token arithmetics (kinds tokens.now) }
 {
     if let Some(rest) = after_word("add", tokens) {
         return Some((Arithmetic::Add, rest));
@@ -84,8 +83,8 @@ pub fn arithmetic(tokens: &[Token]) -> Option<(Arithmetic, &[Token])>
 }
 
 /// The count whose word is the first token.
-pub fn count(tokens: &[Token]) -> Option<(Count, &[Token])>
-    ensures { operator_seen result ≡ operator count_token counts (kinds tokens.now) }
+pub fn count_operator(tokens: &[Token]) -> Option<(Count, &[Token])>
+    ensures { option_map operator_read result ≡ operator count_token counts (kinds tokens.now) }
 {
     if let Some(rest) = after_word("at_least", tokens) {
         return Some((Count::AtLeast, rest));

@@ -2,10 +2,12 @@ ghost use Rattle.std.specs.Prelude.{◌≡◌, ◌<◌, ◌^◌, [], IfOk, IfErr
 ghost use Rattle.policy_ast.specs.declared.policy.PlacedItem.{PlacedItem};
 ghost use Rattle.policy_ast.specs.grammar.Policies.{Spells};
 ghost use Rattle.policy_ast.proofs.grammar.ReadingItems.{read_placed, read_run};
-ghost use Rattle.policy_parse.specs.working.Runs.{placed_seen, run_seen};
+ghost use Rattle.policy_parse.specs.working.Reads.{Reads};
+ghost use Rattle.policy_parse.specs.working.Runs.{placed_read, run_read};
 ghost use Rattle.policy_parse.specs.Faults.{HasCause, IsTheOne};
 
 use crate::items::item;
+use crate::unparsed::{Unparsed, or_none};
 use base_bytes::NoMemory;
 use policy_ast::{PlacedItem, Policy, Token};
 use sqlite_items::Items;
@@ -44,12 +46,12 @@ pub fn parse(alloc: Global, tokens: &[Token]) -> Result<Policy, SyntaxFault>
 /// Items as long as one can be read, and the tokens that are left.
 fn items(alloc: Global, tokens: &[Token]) -> Result<(Items<PlacedItem>, &[Token]), NoMemory>
     requires { length tokens.now < 2 ^ 32 }
-    ensures { IfOk result (λ p. run_seen p ≡ read_run (length tokens.now) [] tokens.now) }
+    ensures { IfOk result (λ p. run_read p ≡ read_run (length tokens.now) [] tokens.now) }
 {
     let mut found = Items::new(alloc);
     let mut rest = tokens;
     for _ in 0..tokens.len() {
-        let Some((one, behind)) = placed(alloc, rest)? else {
+        let Some((one, behind)) = or_none(placed(alloc, rest))? else {
             return Ok((found, rest));
         };
         found.push(one)?;
@@ -59,18 +61,16 @@ fn items(alloc: Global, tokens: &[Token]) -> Result<(Items<PlacedItem>, &[Token]
 }
 
 /// The item with which tokens begin, and the tokens behind it.
-fn placed(alloc: Global, tokens: &[Token]) -> Result<Option<(PlacedItem, &[Token])>, NoMemory>
+fn placed(alloc: Global, tokens: &[Token]) -> Result<(PlacedItem, &[Token]), Unparsed>
     requires { length tokens.now < 2 ^ 32 }
-    ensures { IfOk result (λ o. placed_seen o ≡ read_placed tokens.now) }
+    ensures { Reads placed_read result (read_placed tokens.now) }
 {
     let [first, others @ ..] = tokens else {
-        return Ok(None);
+        return Err(Unparsed::NoMatch);
     };
-    let Some((one, left)) = item(alloc, MAX_HEIGHT, tokens)? else {
-        return Ok(None);
-    };
+    let (one, left) = item(alloc, MAX_HEIGHT, tokens)?;
     let behind = &others[others.len() - left.len()..];
     let line = first.line;
     let item = one.tree;
-    Ok(Some((PlacedItem { line, item }, behind)))
+    Ok((PlacedItem { line, item }, behind))
 }

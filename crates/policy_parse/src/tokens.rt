@@ -1,19 +1,19 @@
 //! Looks at the first token.
 
-ghost use Rattle.std.specs.Prelude.{◌≡◌, IfOk};
+ghost use Rattle.std.specs.Prelude.{◌≡◌, option_map};
 ghost use Rattle.policy_ast.specs.declared.token.TokenKind.TheVariants.{Symbol, Word};
 ghost use Rattle.policy_ast.specs.grammar.Policies.{kinds};
 ghost use Rattle.policy_ast.proofs.grammar.Reading.{after};
 ghost use Rattle.policy_ast.proofs.grammar.ReadingFields.{read_name, read_number};
-ghost use Rattle.policy_parse.specs.Seen.{left_seen, leaf_seen};
+ghost use Rattle.policy_parse.specs.working.Reads.{Reads, leaf_read, token_read};
 
-use base_bytes::NoMemory;
+use crate::unparsed::Unparsed;
 use policy_ast::{Name, Token, TokenKind, is_name};
 use std::alloc::Global;
 
 /// The tokens behind a symbol, where it is the first.
 pub fn after(symbol: u8, tokens: &[Token]) -> Option<&[Token]>
-    ensures { left_seen result ≡ after (Symbol symbol) (kinds tokens.now) }
+    ensures { option_map token_read result ≡ after (Symbol symbol) (kinds tokens.now) }
 {
     let [first, rest @ ..] = tokens else {
         return None;
@@ -26,7 +26,7 @@ pub fn after(symbol: u8, tokens: &[Token]) -> Option<&[Token]>
 
 /// The tokens behind a word, where it is the first.
 pub fn after_word<'a>(word: &str, tokens: &'a [Token]) -> Option<&'a [Token]>
-    ensures { left_seen result ≡ after (Word word.now) (kinds tokens.now) }
+    ensures { option_map token_read result ≡ after (Word word.now) (kinds tokens.now) }
 {
     let [first, rest @ ..] = tokens else {
         return None;
@@ -37,34 +37,48 @@ pub fn after_word<'a>(word: &str, tokens: &'a [Token]) -> Option<&'a [Token]>
     }
 }
 
+/// The tokens behind a symbol that must be the first.
+pub fn expect(symbol: u8, tokens: &[Token]) -> Result<&[Token], Unparsed>
+    ensures { Reads token_read result (after (Symbol symbol) (kinds tokens.now)) }
+{
+    after(symbol, tokens).ok_or(Unparsed::NoMatch)
+}
+
+/// The tokens behind a word that must be the first.
+pub fn expect_word<'a>(word: &str, tokens: &'a [Token]) -> Result<&'a [Token], Unparsed>
+    ensures { Reads token_read result (after (Word word.now) (kinds tokens.now)) }
+{
+    after_word(word, tokens).ok_or(Unparsed::NoMatch)
+}
+
 /// The name that is the first token, and the tokens behind it.
-pub fn name<'a>(alloc: Global, tokens: &'a [Token]) -> Result<Option<(Name, &'a [Token])>, NoMemory>
-    ensures { IfOk result (λ o. leaf_seen o ≡ read_name (kinds tokens.now)) }
+pub fn name<'a>(alloc: Global, tokens: &'a [Token]) -> Result<(Name, &'a [Token]), Unparsed>
+    ensures { Reads leaf_read result (read_name (kinds tokens.now)) }
 {
     let [first, rest @ ..] = tokens else {
-        return Ok(None);
+        return Err(Unparsed::NoMatch);
     };
     match &first.kind {
         TokenKind::Word(text) if is_name(text.as_slice()) => {
             let text = text.copy(alloc)?;
             match Name::new(text) {
-                Some(name) => Ok(Some((name, rest))),
-                None => Ok(None),
+                Some(name) => Ok((name, rest)),
+                None => Err(Unparsed::NoMatch),
             }
         }
-        _ => Ok(None),
+        _ => Err(Unparsed::NoMatch),
     }
 }
 
 /// The number that is the first token, and the tokens behind it.
-pub fn number(tokens: &[Token]) -> Option<(i64, &[Token])>
-    ensures { leaf_seen result ≡ read_number (kinds tokens.now) }
+pub fn number(tokens: &[Token]) -> Result<(i64, &[Token]), Unparsed>
+    ensures { Reads leaf_read result (read_number (kinds tokens.now)) }
 {
     let [first, rest @ ..] = tokens else {
-        return None;
+        return Err(Unparsed::NoMatch);
     };
     match first.kind {
-        TokenKind::Number(number) => Some((number, rest)),
-        _ => None,
+        TokenKind::Number(number) => Ok((number, rest)),
+        _ => Err(Unparsed::NoMatch),
     }
 }

@@ -11,7 +11,7 @@ use Rattle.command.specs.Wire.{IsFormed}
 use Rattle.command.specs.declared.command.Command.{Command}
 use Rattle.command.proofs.WireLaws.{counted_command_format}
 use Rattle.sync_codec.specs.Messages.{HaveIds, IsRequestInForm, IsResponseInForm, counted_command, front, request_bytes, response_bytes}
-use Rattle.sync_codec.specs.Reading.{Front, front_at, have_place, request_at, request_of, response_at, response_of}
+use Rattle.sync_codec.specs.working.Reading.{Front, front_at, have_place, request_at, request_of, response_at, response_of}
 use Rattle.sync_codec.specs.declared.request.Request.{Request}
 use Rattle.sync_codec.specs.declared.response.Response.{Response}
 

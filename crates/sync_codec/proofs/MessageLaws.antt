@@ -5,7 +5,7 @@ use Rattle.base_bytes.specs.Laws.{IsUnambiguous}
 use Rattle.base_bytes.proofs.Codes.{IsReadBy, unambiguous}
 use Rattle.base_bytes.proofs.Formats.{AreBytes}
 use Rattle.sync_codec.specs.Messages.{IsRequest, IsResponse, request_bytes, response_bytes}
-use Rattle.sync_codec.specs.Reading.{request_at, response_at}
+use Rattle.sync_codec.specs.working.Reading.{request_at, response_at}
 use Rattle.sync_codec.specs.declared.request.Request.{Request}
 use Rattle.sync_codec.specs.declared.response.Response.{Response}
 use Rattle.sync_codec.proofs.MessageFormats.{request_format, response_format}

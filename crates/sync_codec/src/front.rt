@@ -3,7 +3,7 @@ ghost use Rattle.std.specs.Int.{w8};
 ghost use Rattle.std.specs.List.{concat};
 ghost use Rattle.base_bytes.specs.Reading.{Reads, bytes_at, in_order, listed_at};
 ghost use Rattle.sync_codec.specs.Messages.{HaveIds, front};
-ghost use Rattle.sync_codec.specs.Reading.{front_at};
+ghost use Rattle.sync_codec.specs.working.Reading.{front_at};
 
 use base_bytes::{Bytes, Id, Ids, NoMemory, Reader, Unread};
 use std::alloc::Global;

@@ -1,7 +1,7 @@
 ghost use Rattle.std.specs.Prelude.{IfNone, IfOk, IfSome};
 ghost use Rattle.base_bytes.specs.Reading.{Reads, ReadsAll};
 ghost use Rattle.sync_codec.specs.Messages.{IsRequest, IsRequestInForm};
-ghost use Rattle.sync_codec.specs.Reading.{request_at};
+ghost use Rattle.sync_codec.specs.working.Reading.{request_at};
 ghost use Rattle.sync_codec.specs.declared.request.Request.{Request};
 
 use crate::front::{PLACES, VERSION, read_front, write_front};

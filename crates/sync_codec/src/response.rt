@@ -6,7 +6,7 @@ ghost use Rattle.command.specs.Reading.{counted_command_at};
 ghost use Rattle.command.specs.Wire.{IsInForm, IsWire, wire};
 ghost use Rattle.sync_codec.specs.declared.response.Response.{Response};
 ghost use Rattle.sync_codec.specs.Messages.{IsResponse, IsResponseInForm, counted_command};
-ghost use Rattle.sync_codec.specs.Reading.{have_place, response_at};
+ghost use Rattle.sync_codec.specs.working.Reading.{have_place, response_at};
 
 use crate::front::{PLACES, VERSION, read_front, write_front};
 use base_bytes::{Bytes, Id, Ids, NoMemory, Reader, Unread, or_none};

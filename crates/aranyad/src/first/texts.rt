@@ -64,9 +64,14 @@ fn push_reason(alloc: Global, into: &mut Bytes, why: &Refusal) -> Result<(), NoM
             let hex = hex::encode(alloc, id.as_slice())?;
             push_all(alloc, into, &["collision ", hex.as_str()])
         }
-        Refusal::Check(command) => push_all(alloc, into, &["command ", command.as_str(), ": check"]),
+        Refusal::Check(command) => push_all(
+            alloc,
+            into,
+            &["command ", command.as_str(), ": check"],
+        ),
         Refusal::Exists(command) => push_all(
-            alloc, into,
+            alloc,
+            into,
             &["command ", command.as_str(), ": fault exists"],
         ),
         Refusal::NoGraph => push_all(alloc, into, &["no graph"]),
@@ -99,7 +104,8 @@ fn push_row(alloc: Global, into: &mut Bytes, fact: &Fact, row: &Row) -> Result<(
     let key = fact.key.as_str();
     let value = fact.value.as_str();
     push_all(
-        alloc, into,
+        alloc,
+        into,
         &[
             "  ",
             name,

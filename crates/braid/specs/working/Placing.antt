@@ -1,5 +1,5 @@
 -- What the steps of the braid's body keep. This serves the contracts of its private functions; what a braid is stands in Braids.
-use Rattle.std.specs.Prelude.{◌≡◌, ℕ, ◌==◌, ◌<◌, ◌⊎◌, ◌↔◌, not, Bool, true, false, List, [], ◌++◌, length, reverse, Option, Some, None, filter}
+use Rattle.std.specs.Prelude.{◌≡◌, ℕ, ◌==◌, ◌<◌, ◌⊎◌, ◌↔◌, not, Bool, true, false, List, ◌++◌, length, reverse, Some, filter}
 use Rattle.std.specs.List.{All, Contains, list_any}
 use Rattle.std.specs.Cmp.Lexicographic.{slice_cmp}
 use Rattle.std.specs.Ordering.{bool_cmp, nat_cmp, ordering_then}
@@ -54,23 +54,18 @@ pub record IsFirst (cs : List Command) (places : List ℕ) (first : ℕ) : Type 
   pub among : Contains places first
   pub lowest : (x y : Command) → IsAmong cs places x → IsAt cs first y → IsBefore x y → ⊥
 
--- the first of these places, and none where there are none
-abbrev pub IsBest : List Command → List ℕ → Option ℕ → Type 0
-IsBest cs places None = places ≡ []
-IsBest cs places (Some first) = IsFirst cs places first
-
 -- the places without one
 abbrev pub struck : ℕ → List ℕ → List ℕ
 struck place places = filter (λ p. not (p == place)) places
 
--- how far the braid is: places that are left, those of them that are the parent of none left, and those that are placed, the
--- highest first. The commands that are left and are no merges, in some order, may still be placed before the others.
-pub record Placing (cs : List Command) (tips left tops placed : List ℕ) : Type 0 where
-  pub within : (place : ℕ) → Contains left place → place < length cs
-  pub free : (place : ℕ) → Contains tops place ↔ (Contains left place × IsFree cs left place)
-  pub down : (m y : Command) → IsParent cs m y → IsAmong cs left y → IsAmong cs left m
+-- how far the braid is: places that remain, those of them that are the parent of none that remains, and those that are placed, the
+-- highest first. The commands that remain and are no merges, in some order, may still be placed before the others.
+pub record Placing (cs : List Command) (tips remaining tops placed : List ℕ) : Type 0 where
+  pub within : (place : ℕ) → Contains remaining place → place < length cs
+  pub free : (place : ℕ) → Contains tops place ↔ (Contains remaining place × IsFree cs remaining place)
+  pub down : (m y : Command) → IsParent cs m y → IsAmong cs remaining y → IsAmong cs remaining m
   pub plain : List Command
-  pub plain_is : (z : Command) → Contains plain z ↔ (IsAmong cs left z × (is_merge z ≡ false))
+  pub plain_is : (z : Command) → Contains plain z ↔ (IsAmong cs remaining z × (is_merge z ≡ false))
   pub order : EachAfter (IsPlaced cs) plain (picked cs (reverse placed))
   pub holds : (x : Command) → (Contains plain x ⊎ Contains (picked cs (reverse placed)) x) ↔ (Contains cs x × IsUnder cs tips x × (is_merge x ≡ false))
   pub done : All (λ place. place < length cs) placed

@@ -1,9 +1,8 @@
 -- What layers say of one place.
-use Rattle.std.specs.Prelude.{◌≡◌, Bool, true, IsTrue, cond, List, [], ◌∷◌, Option, Some, None, Result, Ok, Err}
+use Rattle.std.specs.Prelude.{◌≡◌, Bool, IsTrue, cond, List, [], ◌∷◌, Option, Some, None, Result, Ok, Err}
 use Rattle.std.specs.List.{list_all}
 use Rattle.std.specs.Map.{lookup}
 use Rattle.std.specs.Ordering.{is_eq}
-use Rattle.base_bytes.specs.declared.value.Value.{Value}
 use Rattle.fact_store.specs.declared.wanted.Wanted.{Wanted}
 use Rattle.fact_store.specs.Rows.{are_keys}
 use Rattle.fact_store.specs.working.Orders.{wanted_order}

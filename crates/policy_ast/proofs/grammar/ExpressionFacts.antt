@@ -11,7 +11,7 @@ use Rattle.policy_ast.specs.grammar.Expressions as rows
 use Rattle.policy_ast.specs.grammar.Expressions.{AndOver, BindOver, BodyOver, ComparisonOver, ConditionalOver, ElseExprOver, ExprOver, ExprWithin, IsExpr, LetOver, OrOver, Level, PrimaryOver, UnaryOver, conditional, operand, whole}
 use Rattle.policy_ast.specs.grammar.Fields as fields
 use Rattle.policy_ast.specs.grammar.Fields.{IsNumber}
-use Rattle.policy_ast.specs.grammar.Fixed.{and, arithmetic_token, arrow, close_brace, close_bracket, close_paren, colon, comma, comparison_token, count_token, dot, equals, open_brace, open_bracket, open_paren, or, path, presence_token, question_mark, sign_token, word}
+use Rattle.policy_ast.specs.grammar.Fixed.{and, arithmetic_token, arrow, close_brace, close_bracket, close_paren, colon, comma, comparison_token, count_token, dot, equals, open_brace, open_bracket, open_paren, or, path, presence_token, question_mark, unary_token, word}
 use Rattle.policy_ast.specs.grammar.Forms.{◌▸◌, Listed}
 use Rattle.policy_ast.specs.grammar.Parts.{Nonterminal}
 use Rattle.policy_ast.specs.grammar.Patterns as patterns
@@ -35,7 +35,7 @@ count_opens count.AtMost = refl
 count_opens count.Exactly = refl
 count_opens count.CountUpTo = refl
 
-sign_opens : (op : Unary) → is_closing (sign_token op) ≡ false
+sign_opens : (op : Unary) → is_closing (unary_token op) ≡ false
 sign_opens unary.Not = refl
 sign_opens unary.Unwrap = refl
 sign_opens unary.CheckUnwrap = refl
@@ -92,7 +92,7 @@ module _ (Below : Level → Nonterminal Expr) (parts : (level : Level) → ArePa
   primary_parts h ts rest a (rows.if x) = conditional_parts ts rest a x
 
   pub unary_parts : (is_head : Bool) → AreParts (UnaryOver Below is_head)
-  unary_parts h ts rest a (rows.signed op x) = behind_parts (node_tail (parts_tail (parts (operand h))) _) (sign_token op) (sign_opens op) ts rest a x
+  unary_parts h ts rest a (rows.prefixed op x) = behind_parts (node_tail (parts_tail (parts (operand h))) _) (unary_token op) (sign_opens op) ts rest a x
   unary_parts h ts rest a (rows.plain x) = chained_parts (primary_parts h) dot _ (parts_tail name_parts) ts rest a x
 
   pub comparison_parts : (is_head : Bool) → AreParts (ComparisonOver Below is_head)
@@ -137,7 +137,7 @@ module _ (Below : Level → Nonterminal Expr) where
   primary_high h ts rest a (rows.if x) = behind_high (node_high _) (word "if") ts rest a x
 
   unary_high : (is_head : Bool) → AreHigh (UnaryOver Below is_head)
-  unary_high h ts rest a (rows.signed op x) = behind_high (node_high _) (sign_token op) ts rest a x
+  unary_high h ts rest a (rows.prefixed op x) = behind_high (node_high _) (unary_token op) ts rest a x
   unary_high h ts rest a (rows.plain x) = chained_high (primary_high h) dot _ (λ b a. omega arith) ts rest a x
 
   comparison_high : (is_head : Bool) → AreHigh (ComparisonOver Below is_head)

@@ -12,7 +12,7 @@ use Rattle.policy_ast.specs.declared.part.Part.{Part}
 use Rattle.policy_ast.specs.grammar.Expressions as rows
 use Rattle.policy_ast.specs.grammar.Expressions.{AndOver, BindOver, BodyOver, ComparisonOver, ConditionalOver, ElseExprOver, ExprOver, ExprWithin, IsExpr, LetOver, OrOver, Level, PrimaryOver, UnaryOver, conditional, operand, whole}
 use Rattle.policy_ast.specs.grammar.Fields.{IsName}
-use Rattle.policy_ast.specs.grammar.Fixed.{and, comparison_token, dot, or, presence_token, sign_token, word}
+use Rattle.policy_ast.specs.grammar.Fixed.{and, comparison_token, dot, or, presence_token, unary_token, word}
 use Rattle.policy_ast.specs.grammar.Forms as forms
 use Rattle.policy_ast.specs.grammar.Forms.{◌▸◌, ◌◂◌, ◌⊗◌, Chained, Empty, Listed, Made, Many, Node, Optional}
 use Rattle.policy_ast.specs.grammar.Parts.{Nonterminal, Kinds, node_both}
@@ -41,7 +41,7 @@ presence_here : (op : Presence) (ts : Kinds) → operator presence_token presenc
 presence_here presence.Some ts = refl
 presence_here presence.None ts = refl
 
-sign_here : (op : Unary) (ts : Kinds) → operator sign_token signs (sign_token op ∷ ts) ≡ Some (op, ts)
+sign_here : (op : Unary) (ts : Kinds) → operator unary_token signs (unary_token op ∷ ts) ≡ Some (op, ts)
 sign_here unary.Not ts = refl
 sign_here unary.Unwrap ts = refl
 sign_here unary.CheckUnwrap ts = refl
@@ -63,14 +63,14 @@ module _ (Below Below' : Level → Nonterminal Expr) (below : Level → Reader E
   plain_is_read h = chained_is_read dot (primary_law h) name_is_read (node_is_added expr.Field) (forward name_parts) (λ ts. tt) (before_dot h)
 
   unary_reads : (h : Bool) (ts rest : Kinds) (a : Part Expr) → UnaryOver Below h ts rest a → a.height ≤ suc limit → EndsUnary h rest → unary_over below limit h ts ≡ Some (a, rest)
-  unary_reads h ts rest a (rows.signed op (forms.behind {ts = inner} x)) low ends = rw (sign_here op inner) ((sign_is_read h op).reads inner rest a x low ends)
+  unary_reads h ts rest a (rows.prefixed op (forms.behind {ts = inner} x)) low ends = rw (sign_here op inner) ((sign_is_read h op).reads inner rest a x low ends)
   unary_reads h ts rest a (rows.plain (forms.chained {mid = mid} {b = b} x xs)) low ends =
       rw (primary_unsigned Below Below' below limit parts law h ts mid b x) ((plain_is_read h).reads ts rest a (forms.chained x xs) low ends)
 
   unary_is_read : (h : Bool) → IsRead (UnaryOver Below h) (UnaryOver Below' h) (unary_over below limit h) (suc limit) (EndsUnary h)
   unary_is_read h = record {
     reads = unary_reads h;
-    finds = operated_finds sign_token signs (λ op. (sign_is_read h op).finds) (λ op ts rest a x. rows.signed op x) (λ ts p is. found_by rows.plain ((plain_is_read h).finds ts p is));
+    finds = operated_finds unary_token signs (λ op. (sign_is_read h op).finds) (λ op ts rest a x. rows.prefixed op x) (λ ts p is. found_by rows.plain ((plain_is_read h).finds ts p is));
   }
 
   -- a comparison

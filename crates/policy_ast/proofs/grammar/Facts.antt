@@ -3,7 +3,7 @@ use Rattle.std.proofs.Common.{◌≡◌, ◌<◌, ◌≤◌, ◌==◌, ◌||◌,
 use Rattle.policy_ast.specs.declared.part.Part.{Part}
 use Rattle.policy_ast.specs.declared.token.TokenKind.{TokenKind}
 use Rattle.policy_ast.specs.declared.token.TokenKind.TheVariants as token
-use Rattle.policy_ast.specs.Symbols.{place}
+use Rattle.policy_ast.specs.Symbols.{symbol_index}
 use Rattle.policy_ast.specs.Version.{Two}
 use Rattle.policy_ast.specs.grammar.Fixed.{comma}
 use Rattle.policy_ast.specs.grammar.Forms as forms
@@ -16,8 +16,8 @@ use Rattle.policy_ast.proofs.grammar.Tails.{IsTail, tail_length, tail_next, tail
 
 -- a symbol with which no part of a list begins
 abbrev pub is_closing : TokenKind → Bool
-is_closing (token.Symbol s) = (s == place Two "}") || (s == place Two "]") || (s == place Two ")") || (s == place Two ":")
-    || (s == place Two "?") || (s == place Two "{") || (s == place Two ",")
+is_closing (token.Symbol s) = (s == symbol_index Two "}") || (s == symbol_index Two "]") || (s == symbol_index Two ")") || (s == symbol_index Two ":")
+    || (s == symbol_index Two "?") || (s == symbol_index Two "{") || (s == symbol_index Two ",")
 is_closing _ = false
 
 abbrev pub is_open : Kinds → Bool

@@ -15,7 +15,7 @@ use Rattle.policy_ast.specs.grammar.Expressions as rows
 use Rattle.policy_ast.specs.grammar.Expressions.{AndOver, BindOver, BodyOver, ComparisonOver, ConditionalOver, ElseExprOver, ExprOver, ExprWithin, IsExpr, LetOver, OrOver, Level, PrimaryOver, UnaryOver, conditional, operand, whole}
 use Rattle.policy_ast.specs.grammar.Fields as fields
 use Rattle.policy_ast.specs.grammar.Fields.{IsLiteral, IsName, IsNumber}
-use Rattle.policy_ast.specs.grammar.Fixed.{arithmetic_token, close_brace, close_paren, comma, count_token, open_brace, open_paren, path, sign_token, word}
+use Rattle.policy_ast.specs.grammar.Fixed.{arithmetic_token, close_brace, close_paren, comma, count_token, open_brace, open_paren, path, unary_token, word}
 use Rattle.policy_ast.specs.grammar.Forms as forms
 use Rattle.policy_ast.specs.grammar.Forms.{◌▸◌, ◌◂◌, ◌⊗◌, Chained, Empty, Listed, Made, Many, Node, Optional}
 use Rattle.policy_ast.specs.grammar.Parts.{Nonterminal, Kinds, made_both, part}
@@ -187,23 +187,23 @@ module _ (Below Below' : Level → Nonterminal Expr) (below : Level → Reader E
   }
 
   -- no primary begins with a sign
-  name_unsigned : (text : List ℕ) → is_name Two text ≡ true → (ts : Kinds) → operator sign_token signs (token.Word text ∷ ts) ≡ None
+  name_unsigned : (text : List ℕ) → is_name Two text ≡ true → (ts : Kinds) → operator unary_token signs (token.Word text ∷ ts) ≡ None
   unfolding is_reserved
   name_unsigned text is ts = rw (not_word "unwrap" refl text is ts, not_word "check_unwrap" refl text is ts) refl
 
-  arithmetic_unsigned : (op : Arithmetic) (ts : Kinds) → operator sign_token signs (arithmetic_token op ∷ ts) ≡ None
+  arithmetic_unsigned : (op : Arithmetic) (ts : Kinds) → operator unary_token signs (arithmetic_token op ∷ ts) ≡ None
   arithmetic_unsigned arithmetic.Add ts = refl
   arithmetic_unsigned arithmetic.Sub ts = refl
   arithmetic_unsigned arithmetic.SaturatingAdd ts = refl
   arithmetic_unsigned arithmetic.SaturatingSub ts = refl
 
-  count_unsigned : (op : Count) (ts : Kinds) → operator sign_token signs (count_token op ∷ ts) ≡ None
+  count_unsigned : (op : Count) (ts : Kinds) → operator unary_token signs (count_token op ∷ ts) ≡ None
   count_unsigned count.AtLeast ts = refl
   count_unsigned count.AtMost ts = refl
   count_unsigned count.Exactly ts = refl
   count_unsigned count.CountUpTo ts = refl
 
-  pub primary_unsigned : (h : Bool) (ts rest : Kinds) (a : Part Expr) → PrimaryOver Below h ts rest a → operator sign_token signs ts ≡ None
+  pub primary_unsigned : (h : Bool) (ts rest : Kinds) (a : Part Expr) → PrimaryOver Below h ts rest a → operator unary_token signs ts ≡ None
   primary_unsigned h ts rest a (rows.literal (forms.node_of (fields.IsLiteral.number (forms.made_of fields.IsNumber.number)))) = refl
   primary_unsigned h ts rest a (rows.literal (forms.node_of (fields.IsLiteral.quoted (forms.made_of fields.IsQuoted.quoted)))) = refl
   primary_unsigned h ts rest a (rows.literal (forms.node_of (fields.IsLiteral.true (forms.behind x)))) = refl

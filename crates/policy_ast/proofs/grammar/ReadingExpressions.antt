@@ -22,7 +22,7 @@ use Rattle.policy_ast.specs.declared.expr.Unary.TheVariants as unary
 use Rattle.policy_ast.specs.declared.literal.Literal.TheVariants as literal
 use Rattle.policy_ast.specs.declared.part.Part.{Part}
 use Rattle.policy_ast.specs.grammar.Expressions.{Level, conditional, operand, whole}
-use Rattle.policy_ast.specs.grammar.Fixed.{and, arithmetic_token, arrow, close_brace, close_bracket, close_paren, colon, comma, comparison_token, count_token, dot, equals, open_brace, open_bracket, open_paren, or, path, presence_token, question_mark, sign_token, word}
+use Rattle.policy_ast.specs.grammar.Fixed.{and, arithmetic_token, arrow, close_brace, close_bracket, close_paren, colon, comma, comparison_token, count_token, dot, equals, open_brace, open_bracket, open_paren, or, path, presence_token, question_mark, unary_token, word}
 use Rattle.policy_ast.specs.grammar.Parts.{made_both}
 use Rattle.policy_ast.proofs.grammar.Reading.{Reader, before, behind, built, chained, listed, making, many, node_added, noded, nothing, on, operated, optional, pair, paired, read_empty}
 use Rattle.policy_ast.proofs.grammar.ReadingFields.{named, read_constant, read_name, read_number}
@@ -111,7 +111,7 @@ module _ (below : Level → Reader Expr) (limit : ℕ) where
   primary_over is_head = named (name_over is_head) keyword_over
 
   abbrev pub unary_over : Bool → Reader Expr
-  unary_over is_head = operated sign_token signs (λ op. noded (suc limit) (expr.Unary op) (below (operand is_head)))
+  unary_over is_head = operated unary_token signs (λ op. noded (suc limit) (expr.Unary op) (below (operand is_head)))
       (chained dot (node_added (suc limit) expr.Field) (primary_over is_head) read_name)
 
   -- what stands behind the first operand

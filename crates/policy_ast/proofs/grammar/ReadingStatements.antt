@@ -13,7 +13,7 @@ use Rattle.policy_ast.specs.declared.statement.Stmt.{Stmt}
 use Rattle.policy_ast.specs.declared.statement.Stmt.TheVariants as stmt
 use Rattle.policy_ast.specs.grammar.Expressions.{whole}
 use Rattle.policy_ast.specs.grammar.Fixed.{arrow, bar, close_brace, close_bracket, close_paren, comma, open_brace, open_bracket, open_paren, underscore, word}
-use Rattle.policy_ast.specs.grammar.Statements.{Inner, conditional, statement}
+use Rattle.policy_ast.specs.grammar.Statements.{Inner, if_statement, statement}
 use Rattle.policy_ast.proofs.grammar.Reading.{Reader, behind, chained, list_added, listed, making, many, noded, on, optional, pair, read_empty}
 use Rattle.policy_ast.proofs.grammar.ReadingExpressions.{bind_over, let_over, pattern_over, read_expr}
 use Rattle.policy_ast.proofs.grammar.ReadingFields.{read_name, read_pattern_literal}
@@ -56,7 +56,7 @@ module _ (below : Inner → Reader Stmt) (limit : ℕ) where
   block_over = behind open_brace (many close_brace (below statement))
 
   abbrev pub else_over : Reader (Else Stmt)
-  else_over = on open_brace (making otherwise.Block (many close_brace (below statement))) (making otherwise.If (below conditional))
+  else_over = on open_brace (making otherwise.Block (many close_brace (below statement))) (making otherwise.If (below if_statement))
 
   -- what stands behind the word
   abbrev pub if_over : Reader Stmt
@@ -84,7 +84,7 @@ module _ (below : Inner → Reader Stmt) (limit : ℕ) where
 
   abbrev pub inner_over : Inner → Reader Stmt
   inner_over statement = stmt_over
-  inner_over conditional = behind (word "if") if_over
+  inner_over if_statement = behind (word "if") if_over
 
 -- a statement of at most this height
 unfoldable pub read_stmt : ℕ → Inner → Reader Stmt

@@ -11,7 +11,7 @@ use Rattle.policy_ast.specs.grammar.Parts.{Nonterminal, Kinds}
 use Rattle.policy_ast.specs.grammar.Patterns as patterns
 use Rattle.policy_ast.specs.grammar.Patterns.{IsArmPattern}
 use Rattle.policy_ast.specs.grammar.Statements as rows
-use Rattle.policy_ast.specs.grammar.Statements.{ArmOver, BlockOver, ElseOver, IfOver, Inner, InnerOver, IsBind, IsFinishBlock, IsFinishStmt, IsLet, IsPattern, IsStmt, IsWhole, StmtOver, StmtWithin, conditional, statement}
+use Rattle.policy_ast.specs.grammar.Statements.{ArmOver, BlockOver, ElseOver, IfOver, Inner, InnerOver, IsBind, IsFinishBlock, IsFinishStmt, IsLet, IsPattern, IsStmt, IsWhole, StmtOver, StmtWithin, if_statement, statement}
 use Rattle.policy_ast.specs.grammar.Expressions.{IsExpr}
 use Rattle.policy_ast.proofs.grammar.Ends.{EndsWhole, ends_before_name, ends_whole}
 use Rattle.policy_ast.proofs.grammar.ExpressionFacts.{bind_parts, expr_parts, let_parts, pattern_parts}
@@ -58,7 +58,7 @@ module _ (Below : Inner → Nonterminal Stmt) (parts : (inner : Inner) → ArePa
 
   else_tail : LeavesTail (ElseOver Below)
   else_tail ts rest a (rows.block x) = made_tail block_tail _ ts rest a x
-  else_tail ts rest a (rows.else_if x) = made_tail (parts_tail (parts conditional)) _ ts rest a x
+  else_tail ts rest a (rows.else_if x) = made_tail (parts_tail (parts if_statement)) _ ts rest a x
 
   if_parts : AreParts (IfOver Below)
   if_parts = behind_parts (node_tail (pair_tail (parts_tail (expr_parts (whole true))) (pair_tail block_tail (optional_tail else_tail (word "else")))) _) (word "if") refl
@@ -78,7 +78,7 @@ module _ (Below : Inner → Nonterminal Stmt) (parts : (inner : Inner) → ArePa
 
   inner_parts : (inner : Inner) → AreParts (InnerOver Below inner)
   inner_parts statement = stmt_parts
-  inner_parts conditional = if_parts
+  inner_parts if_statement = if_parts
 
 pub stmt_within_parts : (n : ℕ) (inner : Inner) → AreParts (StmtWithin n inner)
 stmt_within_parts zero inner = λ ts rest a x. absurd x
@@ -96,7 +96,7 @@ EndsStmt ts = (after (word "else") ts ≡ None) × EndsWhole false ts
 
 abbrev pub EndsInner : Inner → Kinds → Type 0
 EndsInner statement ts = EndsStmt ts
-EndsInner conditional ts = EndsIf ts
+EndsInner if_statement ts = EndsIf ts
 
 module _ (Below : Inner → Nonterminal Stmt) where
   -- a statement may follow a statement
@@ -122,7 +122,7 @@ module _ (Below : Inner → Nonterminal Stmt) where
 
   pub inner_over_high : (inner : Inner) → AreHigh (InnerOver Below inner)
   inner_over_high statement = stmt_over_high
-  inner_over_high conditional = behind_high (node_high _) (word "if")
+  inner_over_high if_statement = behind_high (node_high _) (word "if")
 
 pub stmt_within_follows : (n : ℕ) (ts rest : Kinds) (a : Part Stmt) → StmtWithin n statement ts rest a → EndsStmt ts
 stmt_within_follows zero ts rest a x = absurd x

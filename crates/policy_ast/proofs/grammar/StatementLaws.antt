@@ -21,7 +21,7 @@ use Rattle.policy_ast.specs.grammar.Parts.{Nonterminal, Kinds, appended}
 use Rattle.policy_ast.specs.grammar.Patterns as patterns
 use Rattle.policy_ast.specs.grammar.Patterns.{IsArmPattern, IsPatternLiteral}
 use Rattle.policy_ast.specs.grammar.Statements as rows
-use Rattle.policy_ast.specs.grammar.Statements.{ArmOver, BlockOver, ElseOver, IfOver, Inner, InnerOver, IsBind, IsBlock, IsFinishBlock, IsFinishStmt, IsHead, IsLet, IsPattern, IsStmt, IsWhole, StmtOver, StmtWithin, conditional, statement}
+use Rattle.policy_ast.specs.grammar.Statements.{ArmOver, BlockOver, ElseOver, IfOver, Inner, InnerOver, IsBind, IsBlock, IsFinishBlock, IsFinishStmt, IsHead, IsLet, IsPattern, IsStmt, IsWhole, StmtOver, StmtWithin, if_statement, statement}
 use Rattle.policy_ast.specs.Words.{is_reserved}
 use Rattle.policy_ast.proofs.grammar.Ends.{EndsPattern, EndsWhole, before_close_brace, ends_before_brace}
 use Rattle.policy_ast.proofs.grammar.ExpressionFacts.{expr_parts}
@@ -141,7 +141,7 @@ module _ (Below Below' : Inner → Nonterminal Stmt) (below : Inner → Reader S
   else_is_read : IsRead (ElseOver Below) (ElseOver Below') (else_over below limit) limit EndsIf
   else_is_read = record {
     reads = reads;
-    finds = on_finds open_brace ((made_is_read statements_are_read otherwise.Block).finds) blocks (λ ts p is. found_by rows.else_if ((made_is_read (law conditional) otherwise.If).finds ts p is));
+    finds = on_finds open_brace ((made_is_read statements_are_read otherwise.Block).finds) blocks (λ ts p is. found_by rows.else_if ((made_is_read (law if_statement) otherwise.If).finds ts p is));
   }
     where
       blocks : (ts rest : Kinds) (a : Part (Else Stmt)) → (open_brace ▸ Made otherwise.Block (Many (Below' statement) close_brace)) ts rest a → ElseOver Below' ts rest a
@@ -150,7 +150,7 @@ module _ (Below Below' : Inner → Nonterminal Stmt) (below : Inner → Reader S
       reads : (ts rest : Kinds) (a : Part (Else Stmt)) → ElseOver Below ts rest a → a.height ≤ limit → EndsIf rest → else_over below limit ts ≡ Some (a, rest)
       reads ts rest a (rows.block (forms.made_of (forms.behind {ts = inner} x))) low ends = (made_is_read statements_are_read otherwise.Block).reads inner rest a (forms.made_of x) low tt
       reads ts rest a (rows.else_if (forms.made_of {a = b} x)) low ends =
-          rw (not_after open_brace refl ts ((parts conditional ts rest b x).opens)) ((made_is_read (law conditional) otherwise.If).reads ts rest a (forms.made_of x) low ends)
+          rw (not_after open_brace refl ts ((parts if_statement ts rest b x).opens)) ((made_is_read (law if_statement) otherwise.If).reads ts rest a (forms.made_of x) low ends)
 
   -- behind the word
   abbrev if_of : Expr × (List Stmt × Option (Else Stmt)) → Stmt
@@ -217,7 +217,7 @@ module _ (Below Below' : Inner → Nonterminal Stmt) (below : Inner → Reader S
 
   inner_over_is_read : (inner : Inner) → IsRead (InnerOver Below inner) (InnerOver Below' inner) (inner_over below limit inner) (suc limit) (EndsInner inner)
   inner_over_is_read statement = record { reads = stmt_over_reads; finds = stmt_over_finds }
-  inner_over_is_read conditional = behind_is_read if_is_read (word "if")
+  inner_over_is_read if_statement = behind_is_read if_is_read (word "if")
 
 -- the knot
 stmt_within_finds : (limit : ℕ) (inner : Inner) → Finds (StmtWithin limit inner) (read_stmt limit inner) limit

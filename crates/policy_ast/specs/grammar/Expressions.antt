@@ -14,7 +14,7 @@ use Rattle.policy_ast.specs.declared.expr.Presence.{Presence}
 use Rattle.policy_ast.specs.declared.expr.Unary.{Unary}
 use Rattle.policy_ast.specs.declared.part.Part.{Part}
 use Rattle.policy_ast.specs.grammar.Fields.{IsLiteral, IsName, IsNumber}
-use Rattle.policy_ast.specs.grammar.Fixed.{and, arithmetic_token, close_brace, close_paren, colon, comma, comparison_token, count_token, dot, equals, open_brace, open_paren, or, path, presence_token, sign_token, word}
+use Rattle.policy_ast.specs.grammar.Fixed.{and, arithmetic_token, close_brace, close_paren, colon, comma, comparison_token, count_token, dot, equals, open_brace, open_paren, or, path, presence_token, unary_token, word}
 use Rattle.policy_ast.specs.grammar.Forms.{◌▸◌, ◌◂◌, ◌⊗◌, Chained, Empty, Listed, Made, Many, Node}
 use Rattle.policy_ast.specs.grammar.Parts.{Nonterminal, Kinds, node_both}
 use Rattle.policy_ast.specs.grammar.Patterns.{PatternOver}
@@ -73,7 +73,7 @@ module _ (Below : Level → Nonterminal Expr) where
 
   -- unary = ("!" | "unwrap" | "check_unwrap") unary | prim ("." Name)*
   pub data UnaryOver (is_head : Bool) (ts rest : Kinds) (a : Part Expr) : Type 0 where
-    signed : (op : Unary) → (sign_token op ▸ Node (expr.Unary op) (Below (operand is_head))) ts rest a → UnaryOver is_head ts rest a
+    prefixed : (op : Unary) → (unary_token op ▸ Node (expr.Unary op) (Below (operand is_head))) ts rest a → UnaryOver is_head ts rest a
     plain : Chained dot (node_both expr.Field) (PrimaryOver is_head) IsName ts rest a → UnaryOver is_head ts rest a
 
   -- cmp = unary (("==" | "!=" | "<" | "<=" | ">" | ">=") unary | "is" ("Some" | "None"))?

@@ -84,11 +84,11 @@ abbrev pub presence_token : Presence → TokenKind
 presence_token presence.Some = word "Some"
 presence_token presence.None = word "None"
 
--- the signs before an operand
-abbrev pub sign_token : Unary → TokenKind
-sign_token unary.Not = symbol Two "!"
-sign_token unary.Unwrap = word "unwrap"
-sign_token unary.CheckUnwrap = word "check_unwrap"
+-- the operators before an operand
+abbrev pub unary_token : Unary → TokenKind
+unary_token unary.Not = symbol Two "!"
+unary_token unary.Unwrap = word "unwrap"
+unary_token unary.CheckUnwrap = word "check_unwrap"
 
 abbrev pub arithmetic_token : Arithmetic → TokenKind
 arithmetic_token arithmetic.Add = word "add"

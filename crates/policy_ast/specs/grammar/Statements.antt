@@ -53,7 +53,7 @@ IsFinishBlock = open_brace ▸ Many IsFinishStmt close_brace
 -- what lies inside a statement
 pub data Inner : Type 0 where
   statement : Inner
-  conditional : Inner
+  if_statement : Inner
 
 -- Below is what lies inside.
 module _ (Below : Inner → Nonterminal Stmt) where
@@ -64,7 +64,7 @@ module _ (Below : Inner → Nonterminal Stmt) where
   -- block | ifstmt
   pub data ElseOver (ts rest : Kinds) (a : Part (Else Stmt)) : Type 0 where
     block : Made otherwise.Block BlockOver ts rest a → ElseOver ts rest a
-    else_if : Made otherwise.If (Below conditional) ts rest a → ElseOver ts rest a
+    else_if : Made otherwise.If (Below if_statement) ts rest a → ElseOver ts rest a
 
   -- ifstmt = "if" head block ("else" (block | ifstmt))?
   abbrev pub IfOver : Nonterminal Stmt
@@ -88,7 +88,7 @@ module _ (Below : Inner → Nonterminal Stmt) where
 
   abbrev pub InnerOver : Inner → Nonterminal Stmt
   InnerOver statement = StmtOver
-  InnerOver conditional = IfOver
+  InnerOver if_statement = IfOver
 
 -- statements that lie in one another fewer than n deep
 abbrev pub StmtWithin : ℕ → Inner → Nonterminal Stmt

@@ -3,7 +3,6 @@ use Rattle.policy_ast.specs.declared.expr.Expr.TheVariants.{And, Or}
 use Rattle.policy_ast.specs.declared.token.TokenKind.TheVariants.{Symbol}
 use Rattle.policy_ast.specs.grammar.Expressions.{whole}
 use Rattle.policy_ast.specs.grammar.Fixed.{and, close_paren, colon, or}
-use Rattle.policy_ast.specs.grammar.Parts.{part}
 use Rattle.policy_ast.specs.grammar.Policies.{kinds}
 use Rattle.policy_ast.proofs.grammar.Reading.{chain, listed, listed_more, many, many_more, node_added}
 use Rattle.policy_ast.proofs.grammar.ReadingExpressions.{and_over, bind_over, comparison_over, free_over, let_over, read_expr}
@@ -15,8 +14,8 @@ decreases-expressions::expression l = 100 * l.depth + 40
 abbrev pub decreases-expressions::operand : goal.decreases-expressions::operand
 decreases-expressions::operand l = 100 * l.depth + 25
 
-abbrev pub decreases-expressions::else_if : goal.decreases-expressions::else_if
-decreases-expressions::else_if l = 100 * l.depth + 15
+abbrev pub decreases-expressions::else_if_expression : goal.decreases-expressions::else_if_expression
+decreases-expressions::else_if_expression l = 100 * l.depth + 15
 
 abbrev pub decreases-expressions::disjunction : goal.decreases-expressions::disjunction
 decreases-expressions::disjunction l = 100 * l.depth + 30
@@ -60,11 +59,11 @@ decreases-primaries::counted l = 100 * l.depth + 17
 abbrev pub decreases-patterns::pattern : goal.decreases-patterns::pattern
 decreases-patterns::pattern l = 100 * l.limit + 65
 
-abbrev pub decreases-if_expressions::choice : goal.decreases-if_expressions::choice
-decreases-if_expressions::choice l = 100 * l.depth + 14
+abbrev pub decreases-if_expressions::if_expression : goal.decreases-if_expressions::if_expression
+decreases-if_expressions::if_expression l = 100 * l.depth + 14
 
-abbrev pub decreases-if_expressions::otherwise : goal.decreases-if_expressions::otherwise
-decreases-if_expressions::otherwise l = 100 * l.limit + 63
+abbrev pub decreases-if_expressions::else_expression : goal.decreases-if_expressions::else_expression
+decreases-if_expressions::else_expression l = 100 * l.limit + 63
 
 abbrev pub decreases-patterns::frees : goal.decreases-patterns::frees
 decreases-patterns::frees l = 100 * l.limit + 61
@@ -94,25 +93,25 @@ abbrev pub decreases-primaries::closed : goal.decreases-primaries::closed
 decreases-primaries::closed l = 100 * l.limit + 54
 
 abbrev pub invariant-expressions::or_more-loop-behind : goal.invariant-expressions::or_more-loop-behind
-invariant-expressions::or_more-loop-behind l = chain or (node_added (suc (l.depth - 1)) Or) (and_over (read_expr (l.depth - 1)) (l.depth - 1) l.is_head) l.left l.whole (kinds l.rest) ≡ chain or (node_added (suc (l.depth - 1)) Or) (and_over (read_expr (l.depth - 1)) (l.depth - 1) l.is_head) (length l.tokens) l.fn.first (kinds l.tokens)
+invariant-expressions::or_more-loop-behind l = chain or (node_added (suc (l.depth - 1)) Or) (and_over (read_expr (l.depth - 1)) (l.depth - 1) l.is_head) l.turns l.whole (kinds l.rest) ≡ chain or (node_added (suc (l.depth - 1)) Or) (and_over (read_expr (l.depth - 1)) (l.depth - 1) l.is_head) (length l.tokens) l.fn.first (kinds l.tokens)
 
 abbrev pub decreases-expressions::or_more-loop-behind : goal.decreases-expressions::or_more-loop-behind
-decreases-expressions::or_more-loop-behind l = l.left
+decreases-expressions::or_more-loop-behind l = l.turns
 
 abbrev pub invariant-expressions::and_more-loop-behind : goal.invariant-expressions::and_more-loop-behind
-invariant-expressions::and_more-loop-behind l = chain and (node_added (suc (l.depth - 1)) And) (comparison_over (read_expr (l.depth - 1)) (l.depth - 1) l.is_head) l.left l.whole (kinds l.rest) ≡ chain and (node_added (suc (l.depth - 1)) And) (comparison_over (read_expr (l.depth - 1)) (l.depth - 1) l.is_head) (length l.tokens) l.fn.first (kinds l.tokens)
+invariant-expressions::and_more-loop-behind l = chain and (node_added (suc (l.depth - 1)) And) (comparison_over (read_expr (l.depth - 1)) (l.depth - 1) l.is_head) l.turns l.whole (kinds l.rest) ≡ chain and (node_added (suc (l.depth - 1)) And) (comparison_over (read_expr (l.depth - 1)) (l.depth - 1) l.is_head) (length l.tokens) l.fn.first (kinds l.tokens)
 
 abbrev pub decreases-expressions::and_more-loop-behind : goal.decreases-expressions::and_more-loop-behind
-decreases-expressions::and_more-loop-behind l = l.left
+decreases-expressions::and_more-loop-behind l = l.turns
 
 abbrev pub invariant-patterns::arguments-loop : goal.invariant-patterns::arguments-loop
-invariant-patterns::arguments-loop l = listed_more close_paren (read_expr l.limit (whole false)) (length l.tokens - l.counter) (part l.found l.height) (kinds l.rest) ≡ listed close_paren (read_expr l.limit (whole false)) (kinds l.tokens)
+invariant-patterns::arguments-loop l = listed_more close_paren (read_expr l.limit (whole false)) (length l.tokens - l.counter) l.found (kinds l.rest) ≡ listed close_paren (read_expr l.limit (whole false)) (kinds l.tokens)
 
 abbrev pub invariant-patterns::binds-loop : goal.invariant-patterns::binds-loop
-invariant-patterns::binds-loop l = listed_more (Symbol l.close) (bind_over (read_expr l.limit) l.limit) (length l.tokens - l.counter) (part l.found l.height) (kinds l.rest) ≡ listed (Symbol l.close) (bind_over (read_expr l.limit) l.limit) (kinds l.tokens)
+invariant-patterns::binds-loop l = listed_more (Symbol l.close) (bind_over (read_expr l.limit) l.limit) (length l.tokens - l.counter) l.found (kinds l.rest) ≡ listed (Symbol l.close) (bind_over (read_expr l.limit) l.limit) (kinds l.tokens)
 
 abbrev pub invariant-patterns::frees-loop : goal.invariant-patterns::frees-loop
-invariant-patterns::frees-loop l = listed_more (Symbol l.close) (free_over (read_expr l.limit) l.limit) (length l.tokens - l.counter) (part l.found l.height) (kinds l.rest) ≡ listed (Symbol l.close) (free_over (read_expr l.limit) l.limit) (kinds l.tokens)
+invariant-patterns::frees-loop l = listed_more (Symbol l.close) (free_over (read_expr l.limit) l.limit) (length l.tokens - l.counter) l.found (kinds l.rest) ≡ listed (Symbol l.close) (free_over (read_expr l.limit) l.limit) (kinds l.tokens)
 
 abbrev pub invariant-if_expressions::lets-loop : goal.invariant-if_expressions::lets-loop
-invariant-if_expressions::lets-loop l = many_more colon (let_over (read_expr l.limit) l.limit) (length l.tokens - l.counter) (part l.found l.height) (kinds l.rest) ≡ many colon (let_over (read_expr l.limit) l.limit) (kinds l.tokens)
+invariant-if_expressions::lets-loop l = many_more colon (let_over (read_expr l.limit) l.limit) (length l.tokens - l.counter) l.found (kinds l.rest) ≡ many colon (let_over (read_expr l.limit) l.limit) (kinds l.tokens)

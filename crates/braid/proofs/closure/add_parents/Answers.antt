@@ -1,12 +1,22 @@
-use Rattle.std.proofs.Common.{ℕ, List, [], ◌∷◌, sym, subst}
+use Rattle.std.proofs.Common.{◌≡◌, ◌≤◌, length, subst, sym, ◌∙◌}
 use Rattle.command.specs.Kinds.{parents_of}
+use Rattle.braid.specs.working.Links.{AreNumbers, listed_links, places_of}
 use Rattle.braid.specs.working.Placing.{AddsWhere}
-use Rattle.braid.proofs.Additions.{adds_both}
+use Rattle.braid.proofs.Linking.{both_adds, both_numbers}
 use Rattle.braid.proofs.closure.add_parents.Goals as goal
 
-pub returns-in_ok-add_place-in-Merge-2 : goal.returns-in_ok-add_place-in-Merge-2
-returns-in_ok-add_place-in-Merge-2 g c =
+pub returns-clause-adds : goal.returns-clause-adds
+returns-clause-adds g c =
     let cs = g.G.Graph.commands c.args.graph.now in
-    let P : List ℕ → Type 0 = λ id. Unit {0} in
-    subst (λ z. AddsWhere P cs (parents_of z) c.args.places.now.keys c.add_place-in-Merge-2.new.places.keys) (sym c.in-Merge.is)
-    (adds_both P cs (c.in-Merge.left ∷ []) (c.in-Merge.right ∷ []) c.args.places.now.keys c.add_place-in-Merge.new.places.keys c.add_place-in-Merge-2.new.places.keys c.in_ok-add_place-in-Merge.ensures c.in_ok-add_place-in-Merge-2.ensures)
+    let same : c.as_slice-ids.result.now ≡ parents_of c.args.command.now = c.as_slice-ids.ensures.value ∙ c.parents-parents.ensures in
+    let few = subst (λ l. length l ≤ 2) (sym c.as_slice-ids.ensures.value) c.as_slice-ids.ensures.few in
+    subst (λ l. AddsWhere (λ id. Unit {0}) cs l c.args.places.now.keys c.add_nth-2.new.places.keys) same
+    (both_adds cs c.as_slice-ids.result.now c.args.places.now.keys c.add_nth.new.places.keys c.add_nth-2.new.places.keys few c.in_ok-left.ensures.adds c.in_ok-right.ensures.adds)
+
+pub returns-clause-links : goal.returns-clause-links
+returns-clause-links g c =
+    let cs = g.G.Graph.commands c.args.graph.now in
+    let same : c.as_slice-ids.result.now ≡ parents_of c.args.command.now = c.as_slice-ids.ensures.value ∙ c.parents-parents.ensures in
+    let few = subst (λ l. length l ≤ 2) (sym c.as_slice-ids.ensures.value) c.as_slice-ids.ensures.few in
+    subst (λ l. AreNumbers c.add_nth-2.new.places.keys (listed_links (record { left = c.in_ok-left.left; right = c.in_ok-right.right })) (places_of cs l)) same
+    (both_numbers cs c.as_slice-ids.result.now c.add_nth.new.places.keys c.add_nth-2.new.places.keys c.in_ok-left.left c.in_ok-right.right few c.in_ok-right.ensures.adds c.in_ok-left.ensures.number c.in_ok-right.ensures.number)

@@ -1,59 +1,161 @@
-use Rattle.std.proofs.Common.{◌≡◌, ℕ, ◌<◌, ◌↔◌, length, sym, subst, ◌∙◌}
-use Rattle.std.specs.List.{All, Contains}
-use Rattle.std.proofs.lemmas.List.Elements.{All-contains, All-nil}
-use Rattle.command.specs.Ancestors.{IsUnder}
+use Rattle.std.proofs.Common.{◌≡◌, ℕ, ◌<◌, [], None, List, length, get_or, subst, sym, ap, ◌∙◌, arith, append-nil, rules}
+use Rattle.std.specs.BinaryHeap.{heap_items}
+use Rattle.std.specs.List.{All}
+use Rattle.std.proofs.lemmas.Option.{slice_get_within}
 use Rattle.command.specs.declared.command.Command.{Command}
 use Rattle.braid.specs.Braids.{IsBraidUnder, picked}
-use Rattle.braid.specs.working.Placing.{IsAmong, IsBest, IsFirst, IsFree, Placing}
-use Rattle.braid.proofs.Gathering.{all_of}
-use Rattle.braid.proofs.Places.{reversed_all, struck_shorter}
-use Rattle.braid.proofs.Progress.{began, whole}
+use Rattle.braid.specs.declared.closure.Links.{Links}
+use Rattle.braid.specs.working.Links.{IsClosureWith, listed, listed_links, parents_at}
+use Rattle.braid.specs.working.Placing.{struck}
+use Rattle.braid.specs.working.Turns.{Standing}
+use Rattle.braid.proofs.Numbers.{linked_at, linked_length, linked_within, numbers_split}
+use Rattle.braid.proofs.Places.{reversed_all}
+use Rattle.braid.proofs.Progress.{whole}
+use Rattle.braid.proofs.Turning.{asked, ended, its_turn, popped, started, stepped, struck_once}
 use Rattle.braid.proofs.ordering.braid.Goals as goal
 
-pub loop-place-init : goal.loop-place-init
-loop-place-init g c =
+-- the closure, as it is lent
+lent : (cs : List Command) (tips keys places : List ℕ) (items links : List Links) → places ≡ keys → links ≡ items → IsClosureWith cs tips keys items → IsClosureWith cs tips places links
+lent cs tips keys places items links same other whole = subst (λ l. IsClosureWith cs tips l links) (sym same) (subst (λ l. IsClosureWith cs tips keys l) (sym other) whole)
+
+pub children-requires-clause-few : goal.children-requires-clause-few
+children-requires-clause-few g c =
     let cs = g.G.Graph.commands c.args.graph.now in
-    let P : ℕ → Type 0 = λ p. p < length cs in
-    let left = c.in_ok-left.left.items in
-    let tops = c.in_ok-tops.tops.items in
-    let same : left ≡ c.in_ok-found.found.keys = c.in_ok-left.ensures.items ∙ c.as_slice.ensures.keys in
-    subst (λ l. Placing cs c.args.tips.now left tops l) (sym c.new-placed.ensures)
-    (began cs c.args.tips.now left tops (λ p h. All-contains P left p (subst (λ l. All P l) (sym same) c.in_ok-found.ensures.within) h)
-    (subst (λ l. (z : Command) → IsAmong cs l z ↔ IsUnder cs c.args.tips.now z) (sym same) c.in_ok-found.ensures.under)
-    (subst (λ l. (p : ℕ) → Contains tops p ↔ (Contains l p × IsFree cs l p)) c.as_slice-2.ensures.value c.in_ok-tops.ensures) (All-nil P))
+    let places = c.as_slice-places.result.now in
+    let links = c.as_slice-links.result.now in
+    let whole = lent cs c.args.tips.now c.in_ok-found.found.places.keys places c.in_ok-found.found.links.items links c.as_slice-places.ensures.keys c.as_slice-links.ensures.value c.in_ok-found.ensures in
+    let same = linked_length cs places links places whole.linked in
+    let few = g.met.G.Graph.few c.args.graph.now in
+    let most = whole.few in
+    omega (arith, most, same, few)
 
-pub lowest-requires : goal.lowest-requires
-lowest-requires g c =
-    let P : ℕ → Type 0 = λ p. p < length (g.G.Graph.commands c.args.graph.now) in
-    subst (λ l. All P l) (sym c.as_slice-in-loop-place.ensures.value) (all_of P c.loop-place.tops.items (λ p h. c.loop-place.invariant.within p ((c.loop-place.invariant.free p).0 h).0))
+pub children-requires-clause-within : goal.children-requires-clause-within
+children-requires-clause-within g c =
+    let cs = g.G.Graph.commands c.args.graph.now in
+    let places = c.as_slice-places.result.now in
+    let links = c.as_slice-links.result.now in
+    let whole = lent cs c.args.tips.now c.in_ok-found.found.places.keys places c.in_ok-found.found.links.items links c.as_slice-places.ensures.keys c.as_slice-links.ensures.value c.in_ok-found.ensures in
+    subst (λ n. All (λ them. All (λ k. k < n) (listed_links them)) links) (sym (linked_length cs places links places whole.linked)) (linked_within cs places links places whole.linked)
 
-pub take-requires-clause-place : goal.take-requires-clause-place
-take-requires-clause-place g c =
-    let first = subst (λ l. IsFirst (g.G.Graph.commands c.args.graph.now) l c.in-Some.place) c.as_slice-in-loop-place.ensures.value c.in-Some.ensures in
-    c.loop-place.invariant.within c.in-Some.place ((c.loop-place.invariant.free c.in-Some.place).0 first.among).0
+pub tops-requires-clause-children : goal.tops-requires-clause-children
+tops-requires-clause-children g c =
+    let cs = g.G.Graph.commands c.args.graph.now in
+    let places = c.as_slice-places.result.now in
+    let links = c.as_slice-links.result.now in
+    let whole = lent cs c.args.tips.now c.in_ok-found.found.places.keys places c.in_ok-found.found.links.items links c.as_slice-places.ensures.keys c.as_slice-links.ensures.value c.in_ok-found.ensures in
+    ap length c.as_slice.ensures.value ∙ c.in_ok-children.ensures.length ∙ linked_length cs places links places whole.linked
 
-pub take-requires-clause-left : goal.take-requires-clause-left
-take-requires-clause-left g c = all_of (λ p. p < length (g.G.Graph.commands c.args.graph.now)) c.loop-place.left.items c.loop-place.invariant.within
+pub loop-turn-init : goal.loop-turn-init
+loop-turn-init g c =
+    let cs = g.G.Graph.commands c.args.graph.now in
+    let places = c.as_slice-places.result.now in
+    let links = c.as_slice-links.result.now in
+    let whole = lent cs c.args.tips.now c.in_ok-found.found.places.keys places c.in_ok-found.found.links.items links c.as_slice-places.ensures.keys c.as_slice-links.ensures.value c.in_ok-found.ensures in
+    record {
+      going = started cs (g.met.G.Graph.closed c.args.graph.now) c.args.tips.now places links c.in_ok-children.children.items (heap_items c.in_ok-heap.heap) c.new-placed.result whole c.in_ok-children.ensures.counted
+          (λ counted. subst (λ l. Standing cs places l (heap_items c.in_ok-heap.heap) [] places) c.as_slice.ensures.value (c.in_ok-heap.ensures.standing (λ k p at. ap (λ l. get_or l k 0) c.as_slice.ensures.value ∙ counted k p at))) c.new-placed.ensures;
+      order = c.in_ok-heap.ensures.heap;
+      length = c.in_ok-children.ensures.length ∙ linked_length cs places links places whole.linked;
+    }
 
-pub loop-place-smaller : goal.loop-place-smaller
-loop-place-smaller g c =
-    let first = subst (λ l. IsFirst (g.G.Graph.commands c.args.graph.now) l c.in-Some.place) c.as_slice-in-loop-place.ensures.value c.in-Some.ensures in
-    let shorter = struck_shorter c.in-Some.place c.loop-place.left.items ((c.loop-place.invariant.free c.in-Some.place).0 first.among).0 in
-    subst (λ l. length l < length c.loop-place.left.items) (sym c.take.ensures.left) shorter
+pub bounds-links-turn : goal.bounds-links-turn
+bounds-links-turn g c =
+    let cs = g.G.Graph.commands c.args.graph.now in
+    let places = c.as_slice-places.result.now in
+    let links = c.as_slice-links.result.now in
+    let whole = lent cs c.args.tips.now c.in_ok-found.found.places.keys places c.in_ok-found.found.links.items links c.as_slice-places.ensures.keys c.as_slice-links.ensures.value c.in_ok-found.ensures in
+    let its = its_turn cs (g.met.G.Graph.closed c.args.graph.now) c.args.tips.now places c.loop-turn.children.items (heap_items c.loop-turn.heap) c.loop-turn.placed c.loop-turn.invariant.going c.in-Some.turn (heap_items c.first.new.heap) c.in-Some.ensures.taken in
+    let lt = slice_get_within places c.in-Some.turn.number c.in-Some.turn.place its.number in
+    let same = linked_length cs places links places whole.linked in
+    omega (arith, lt, same)
 
-pub loop-place-preserved : goal.loop-place-preserved
-loop-place-preserved g c =
-    let first = subst (λ l. IsFirst (g.G.Graph.commands c.args.graph.now) l c.in-Some.place) c.as_slice-in-loop-place.ensures.value c.in-Some.ensures in
-    c.in_ok-take.ensures.placing c.args.tips.now c.loop-place.invariant first
+pub offset_bounds-links-turn : goal.offset_bounds-links-turn
+offset_bounds-links-turn g c =
+    let cs = g.G.Graph.commands c.args.graph.now in
+    let places = c.as_slice-places.result.now in
+    let links = c.as_slice-links.result.now in
+    let whole = lent cs c.args.tips.now c.in_ok-found.found.places.keys places c.in_ok-found.found.links.items links c.as_slice-places.ensures.keys c.as_slice-links.ensures.value c.in_ok-found.ensures in
+    let its = its_turn cs (g.met.G.Graph.closed c.args.graph.now) c.args.tips.now places c.loop-turn.children.items (heap_items c.loop-turn.heap) c.loop-turn.placed c.loop-turn.invariant.going c.in-Some.turn (heap_items c.first.new.heap) c.in-Some.ensures.taken in
+    let turn = c.in-Some.turn in
+    let lt = slice_get_within places c.in-Some.turn.number c.in-Some.turn.place its.number in
+    let same = linked_length cs places links places whole.linked in
+    let within : turn.number < length links = omega (arith, lt, same) in
+    search rules
+
+pub release-requires-clause-number : goal.release-requires-clause-number
+release-requires-clause-number g c =
+    let cs = g.G.Graph.commands c.args.graph.now in
+    let closed = g.met.G.Graph.closed c.args.graph.now in
+    let places = c.as_slice-places.result.now in
+    let links = c.as_slice-links.result.now in
+    let whole = lent cs c.args.tips.now c.in_ok-found.found.places.keys places c.in_ok-found.found.links.items links c.as_slice-places.ensures.keys c.as_slice-links.ensures.value c.in_ok-found.ensures in
+    let now = c.loop-turn.invariant.going in
+    let turn = c.in-Some.turn in
+    let after = heap_items c.first.new.heap in
+    let none : Links = record { left = None; right = None } in
+    let them : Links = get_or links turn.number none in
+    let its = its_turn cs closed c.args.tips.now places c.loop-turn.children.items (heap_items c.loop-turn.heap) c.loop-turn.placed now turn after c.in-Some.ensures.taken in
+    let numbers = linked_at cs places links places whole.linked turn.number turn.place none its.number in
+    let split = numbers_split places (listed them.left) (listed them.right) (parents_at cs turn.place) numbers in
+    let start = subst (λ l. Standing cs places c.loop-turn.children.items after l (struck turn.place now.remaining)) split.2
+    (popped cs closed c.args.tips.now places c.loop-turn.children.items (heap_items c.loop-turn.heap) c.loop-turn.placed now turn after c.in-Some.ensures.taken) in
+    asked cs places c.loop-turn.children.items after split.1 (struck turn.place now.remaining) them.left split.0 split.3 start
+
+pub release-requires-in-Some-clause-number : goal.release-requires-in-Some-clause-number
+release-requires-in-Some-clause-number g c =
+    let cs = g.G.Graph.commands c.args.graph.now in
+    let closed = g.met.G.Graph.closed c.args.graph.now in
+    let places = c.as_slice-places.result.now in
+    let links = c.as_slice-links.result.now in
+    let whole = lent cs c.args.tips.now c.in_ok-found.found.places.keys places c.in_ok-found.found.links.items links c.as_slice-places.ensures.keys c.as_slice-links.ensures.value c.in_ok-found.ensures in
+    let now = c.loop-turn.invariant.going in
+    let turn = c.in-Some.turn in
+    let after = heap_items c.first.new.heap in
+    let none : Links = record { left = None; right = None } in
+    let them : Links = get_or links turn.number none in
+    let rest = struck turn.place now.remaining in
+    let its = its_turn cs closed c.args.tips.now places c.loop-turn.children.items (heap_items c.loop-turn.heap) c.loop-turn.placed now turn after c.in-Some.ensures.taken in
+    let once = struck_once cs closed c.args.tips.now places c.loop-turn.children.items (heap_items c.loop-turn.heap) c.loop-turn.placed now turn after c.in-Some.ensures.taken in
+    let numbers = linked_at cs places links places whole.linked turn.number turn.place none its.number in
+    let split = numbers_split places (listed them.left) (listed them.right) (parents_at cs turn.place) numbers in
+    let start = subst (λ l. Standing cs places c.loop-turn.children.items after l rest) split.2
+    (popped cs closed c.args.tips.now places c.loop-turn.children.items (heap_items c.loop-turn.heap) c.loop-turn.placed now turn after c.in-Some.ensures.taken) in
+    let half = c.in_ok-release.ensures.standing split.0 split.1 rest split.3 whole.once once start in
+    asked cs places c.release.new.children.items (heap_items c.release.new.heap) [] rest them.right split.1 split.4
+    (subst (λ l. Standing cs places c.release.new.children.items (heap_items c.release.new.heap) l rest) (sym (append-nil split.1)) half)
+
+pub loop-turn-preserved : goal.loop-turn-preserved
+loop-turn-preserved g c =
+    let cs = g.G.Graph.commands c.args.graph.now in
+    let closed = g.met.G.Graph.closed c.args.graph.now in
+    let places = c.as_slice-places.result.now in
+    let links = c.as_slice-links.result.now in
+    let whole = lent cs c.args.tips.now c.in_ok-found.found.places.keys places c.in_ok-found.found.links.items links c.as_slice-places.ensures.keys c.as_slice-links.ensures.value c.in_ok-found.ensures in
+    let now = c.loop-turn.invariant.going in
+    let turn = c.in-Some.turn in
+    let after = heap_items c.first.new.heap in
+    let none : Links = record { left = None; right = None } in
+    let them : Links = get_or links turn.number none in
+    let its = its_turn cs closed c.args.tips.now places c.loop-turn.children.items (heap_items c.loop-turn.heap) c.loop-turn.placed now turn after c.in-Some.ensures.taken in
+    let numbers = linked_at cs places links places whole.linked turn.number turn.place none its.number in
+    record {
+      going =
+          stepped cs closed c.args.tips.now places c.loop-turn.children.items (heap_items c.loop-turn.heap) c.loop-turn.placed now whole.once turn after c.in-Some.ensures.taken c.in-Some.ensures.lowest them numbers c.release.new.children.items
+          c.release-in-Some.new.children.items (heap_items c.release.new.heap) (heap_items c.release-in-Some.new.heap) c.put.new.placed c.in_ok-release.ensures.standing c.in_ok-release-2.ensures.standing c.in_ok-put.ensures;
+      order = c.in_ok-release-2.ensures.heap;
+      length = c.in_ok-release-2.ensures.children ∙ c.in_ok-release.ensures.children ∙ c.loop-turn.invariant.length;
+    }
 
 pub returns-clause-braid : goal.returns-clause-braid
 returns-clause-braid g c =
     let cs = g.G.Graph.commands c.args.graph.now in
-    let none = subst (λ o. IsBest cs c.as_slice-in-loop-place.result.now o) c.in_default.is c.lowest.ensures in
+    let closed = g.met.G.Graph.closed c.args.graph.now in
+    let places = c.as_slice-places.result.now in
+    let now = c.loop-turn.invariant.going in
     subst (λ l. IsBraidUnder cs c.args.tips.now (picked cs l)) (sym c.reverse.ensures)
-    (whole cs (g.met.G.Graph.closed c.args.graph.now) c.args.tips.now c.loop-place.left.items c.loop-place.tops.items c.loop-place.placed c.loop-place.invariant (sym c.as_slice-in-loop-place.ensures.value ∙ none))
+    (whole cs closed c.args.tips.now now.remaining _ c.loop-turn.placed now.placing (ended cs closed c.args.tips.now places c.loop-turn.children.items (heap_items c.loop-turn.heap) c.loop-turn.placed now c.in_default.ensures.none))
 
 pub returns-clause-within : goal.returns-clause-within
 returns-clause-within g c =
     let P : ℕ → Type 0 = λ p. p < length (g.G.Graph.commands c.args.graph.now) in
-    subst (λ l. All P l) (sym c.reverse.ensures) (reversed_all P c.loop-place.placed c.loop-place.invariant.done)
+    subst (λ l. All P l) (sym c.reverse.ensures) (reversed_all P c.loop-turn.placed c.loop-turn.invariant.going.placing.done)

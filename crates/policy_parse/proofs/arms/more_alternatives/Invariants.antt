@@ -7,7 +7,7 @@ use Rattle.policy_ast.proofs.grammar.ReadingFields.{read_pattern_literal}
 use Rattle.policy_parse.proofs.arms.more_alternatives.Given as goal
 
 abbrev pub invariant-loop-behind : goal.invariant-loop-behind
-invariant-loop-behind l = chain bar list_added read_pattern_literal l.left (part l.found 0) (kinds l.rest) ≡ chain bar list_added read_pattern_literal (length l.tokens) (part l.fn.first 0) (kinds l.tokens)
+invariant-loop-behind l = chain bar list_added read_pattern_literal l.turns (part l.found 0) (kinds l.rest) ≡ chain bar list_added read_pattern_literal (length l.tokens) (part l.fn.first 0) (kinds l.tokens)
 
 abbrev pub decreases-loop-behind : goal.decreases-loop-behind
-decreases-loop-behind l = l.left
+decreases-loop-behind l = l.turns

@@ -1,44 +1,13 @@
-use Rattle.std.proofs.Common.{◌-◌, ◌+◌, length, sym, ◌∙◌, arith, length-append, [], ◌∷◌}
+use Rattle.std.proofs.Common.{arith}
 use Rattle.policy_ast.specs.grammar.Fixed.{close_brace}
-use Rattle.policy_ast.specs.grammar.Parts.{part}
 use Rattle.policy_ast.specs.grammar.Policies.{kinds}
 use Rattle.policy_ast.proofs.grammar.ReadingFields.{read_name}
-use Rattle.policy_parse.proofs.Turns.{listed_ends, listed_full, listed_goes_on, listed_last, listed_missing, listed_unparted}
+use Rattle.policy_parse.proofs.Turns.{kinds_length, listed_few}
 use Rattle.policy_parse.proofs.types.variants.Goals as goal
 
-pub returns-in-Some : goal.returns-in-Some
-returns-in-Some c =
-    rw c.new.ensures (sym (listed_ends close_brace read_name (length c.args.tokens.now - c.loop.counter) (part c.loop.found 0) (kinds c.loop.rest.now) (kinds c.in-Some.behind.now) (omega (arith, c.loop-test.true)) c.in-Some.ensures)
-    ∙ c.loop.invariant.read)
-
-pub returns-in_default-2 : goal.returns-in_default-2
-returns-in_default-2 c =
-    sym (listed_missing close_brace read_name (length c.args.tokens.now - c.loop.counter) (part c.loop.found 0) (kinds c.loop.rest.now) (omega (arith, c.loop-test.true)) c.in_default.ensures (rw c.in_default-2.is at c.in_ok-one.ensures))
-    ∙ c.loop.invariant.read
-
-pub returns-in-Some-after : goal.returns-in-Some-after
-returns-in-Some-after c =
-    rw (c.new-in-Some-after.ensures, c.in_ok-push.ensures.ok)
-    (sym (listed_last close_brace read_name (length c.args.tokens.now - c.loop.counter) (part c.loop.found 0) (kinds c.loop.rest.now) (kinds c.in-Some-2.behind.now) (kinds c.in-Some-after.behind.now) (part c.in-Some-2.one 0)
-    (omega (arith, c.loop-test.true)) c.in_default.ensures (rw c.in-Some-2.is at c.in_ok-one.ensures) c.in-Some-after.ensures)
-    ∙ c.loop.invariant.read)
-
-pub returns-in_default-after-2 : goal.returns-in_default-after-2
-returns-in_default-after-2 c =
-    sym (listed_unparted close_brace read_name (length c.args.tokens.now - c.loop.counter) (part c.loop.found 0) (kinds c.loop.rest.now) (kinds c.in-Some-2.behind.now) (part c.in-Some-2.one 0)
-    (omega (arith, c.loop-test.true)) c.in_default.ensures (rw c.in-Some-2.is at c.in_ok-one.ensures) c.in_default-after.ensures c.in_default-after-2.ensures)
-    ∙ c.loop.invariant.read
-
-pub loop-preserved : goal.loop-preserved
-loop-preserved c = record {
-  read = rw (c.in_ok-push.ensures.ok)
-      (sym (listed_goes_on close_brace read_name (length c.args.tokens.now - c.loop.counter) (length c.args.tokens.now - (c.loop.counter + 1)) (part c.loop.found 0) (kinds c.loop.rest.now) (kinds c.in-Some-2.behind.now) (kinds c.in-Some-after-2.behind.now) (part c.in-Some-2.one 0)
-      (omega (arith, c.loop-test.true)) c.in_default.ensures (rw c.in-Some-2.is at c.in_ok-one.ensures) c.in_default-after.ensures c.in-Some-after-2.ensures)
-      ∙ c.loop.invariant.read);
-  few = rw (c.in_ok-push.ensures.ok, length-append c.loop.found (c.in-Some-2.one ∷ [])) (let few = c.loop.invariant.few in omega (arith, few));
-}
-
-pub returns : goal.returns
-returns c =
-    sym (listed_full close_brace read_name (length c.args.tokens.now - c.loop.counter) (part c.loop.found 0) (kinds c.loop.rest.now) (omega (arith, c.loop-test.false)))
-    ∙ c.loop.invariant.read
+pub new-tree-requires : goal.new-tree-requires
+new-tree-requires c =
+    let few = listed_few close_brace read_name (kinds c.args.tokens.now) (c.in_ok-names.names, kinds c.in_ok-names.rest.now) c.in_ok-names.ensures in
+    let given = c.requires in
+    let same = kinds_length c.args.tokens.now in
+    omega (arith, few, given, same)

@@ -1,7 +1,7 @@
 use Rattle.std.proofs.Common.{arith}
 use Rattle.base_bytes.proofs.Codes.{found_in_form, none_in_form}
 use Rattle.sync_codec.specs.Messages.{IsRequest}
-use Rattle.sync_codec.specs.Reading.{request_at}
+use Rattle.sync_codec.specs.working.Reading.{request_at}
 use Rattle.sync_codec.proofs.MessageLaws.{is_request, request_read}
 use Rattle.sync_codec.proofs.request.Request.from_bytes.Goals as goal
 

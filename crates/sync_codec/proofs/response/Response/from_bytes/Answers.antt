@@ -1,7 +1,7 @@
 use Rattle.std.proofs.Common.{arith}
 use Rattle.base_bytes.proofs.Codes.{found_in_form, none_in_form}
 use Rattle.sync_codec.specs.Messages.{IsResponse}
-use Rattle.sync_codec.specs.Reading.{response_at}
+use Rattle.sync_codec.specs.working.Reading.{response_at}
 use Rattle.sync_codec.proofs.MessageLaws.{is_response, response_read}
 use Rattle.sync_codec.proofs.response.Response.from_bytes.Goals as goal
 
