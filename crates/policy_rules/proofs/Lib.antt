@@ -11,6 +11,7 @@ pub mod StatementLaws
 pub mod ItemLaws
 pub mod PolicyLaws
 pub mod Reaching
+pub mod ExistingTypes
 mod ExpressionRows
 mod ItemRows
 mod PolicyRows

@@ -26,6 +26,7 @@ may_match_layer items (NamedType-F.Enum name) = is_some (enum_named items name)
 may_match_layer items (NamedType-F.Optional inner) = true
 may_match_layer items other = false
 
+-- A value of the type may be matched.
 abbrev pub may_match : List Item → NamedType → Bool
 may_match items t = may_match_layer items (out-NamedType t)
 
@@ -38,6 +39,7 @@ same_literal literal.False literal.False = true
 same_literal (literal.Variant name variant) (literal.Variant other place) = bytes_eq name other && bytes_eq variant place
 same_literal _ _ = false
 
+-- Two patterns list one value.
 abbrev pub same_pattern : PatternLiteral → PatternLiteral → Bool
 same_pattern (pattern.Literal l) (pattern.Literal other) = same_literal l other
 same_pattern pattern.None pattern.None = true
@@ -58,10 +60,12 @@ abbrev pub listed : ArmPattern → List PatternLiteral
 listed arm_pattern.Any = []
 listed (arm_pattern.Literals literals) = literals
 
+-- The values that all arms list, in order.
 abbrev pub all_listed : List ArmPattern → List PatternLiteral
 all_listed [] = []
 all_listed (p ∷ patterns) = listed p ++ all_listed patterns
 
+-- The pattern is `_`.
 abbrev pub is_any : ArmPattern → Bool
 is_any arm_pattern.Any = true
 is_any other = false
@@ -85,6 +89,7 @@ all_values_layer items (NamedType-F.Enum name) patterns =
     list_all (λ variant. list_any (same_pattern (pattern.Literal (literal.Variant name variant))) patterns) (unwrap_or (enum_named items name) [])
 all_values_layer items other patterns = false
 
+-- All values of the type are listed.
 abbrev pub lists_all_values : List Item → NamedType → List PatternLiteral → Bool
 lists_all_values items t = all_values_layer items (out-NamedType t)
 

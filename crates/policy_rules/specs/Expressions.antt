@@ -46,10 +46,12 @@ arithmetic_type arithmetic.Sub = ty.Optional ty.Int
 arithmetic_type arithmetic.SaturatingAdd = ty.Int
 arithmetic_type arithmetic.SaturatingSub = ty.Int
 
+-- `count_up_to` gives a number, and the other counts say whether it is met.
 abbrev pub count_type : Count → NamedType
 count_type count.CountUpTo = ty.Int
 count_type other = ty.Bool
 
+-- At least 1.
 abbrev pub is_positive : ℤ → Bool
 is_positive (pos n) = nat_le 1 n
 is_positive (negsuc n) = false
@@ -136,9 +138,11 @@ module _ (items : List Item) (context : Context) where
       more_lets : {scope after : Scope} {l : Let Expr} {more : List (Let Expr)} (t : NamedType) → HasType scope l.value t → may_introduce items context scope l.name ≡ true
           → Introduce (with_name scope l.name t) more after → Introduce scope (l ∷ more) after
 
+    -- A block has the type of its value, in the scope behind its `let`s.
     pub data HasBlockType : Scope → ExprBlock Expr → NamedType → Type 0 where
       block_of : {scope : Scope} {b : ExprBlock Expr} {t : NamedType} (inner : Scope) → Introduce scope b.lets inner → HasType inner b.value t → HasBlockType scope b t
 
+    -- What follows `else` has this type: a block, or an `if` again.
     pub data HasElseType : Scope → ElseExpr Expr → NamedType → Type 0 where
       else_block : {scope : Scope} {b : ExprBlock Expr} {t : NamedType} → HasBlockType scope b t → HasElseType scope (else_expr.Block b) t
       else_if : {scope : Scope} {e : Expr} {t : NamedType} → HasType scope e t → HasElseType scope (else_expr.If e) t
