@@ -3,5 +3,6 @@
 
 mod list_graph;
 mod parents;
+mod walk;
 
 pub use list_graph::ListGraph;

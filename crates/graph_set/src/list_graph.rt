@@ -4,7 +4,8 @@ ghost use Rattle.command.specs.Wire.{IsFormed, IsInForm, command_id};
 ghost use Rattle.graph_set.specs.working.Held.{IsGraph, graph_prop};
 ghost use Rattle.indexmap.specs.IndexMap.{keys, spare, values};
 
-use crate::parents::{add_head, add_parents, go_on, has_parent_among};
+use crate::parents::{add_head, add_parents};
+use crate::walk::Walk;
 use base_bytes::{Id, NoMemory};
 use command::{Command, Graph, Places, id_of};
 use indexmap::{IndexMap, IndexSet};
@@ -36,10 +37,13 @@ fn put(commands: &mut IndexMap<Id, Command>, command: Command) -> Result<(), NoM
 }
 
 impl ListGraph {
-    ghost use Rattle.std.specs.Prelude.{ℕ, Bool, List};
-    ghost use Rattle.std.specs.List.{list_any};
+    ghost use Rattle.std.specs.Prelude.{ℕ, ◌<◌, Bool, List, Some, length};
+    ghost use Rattle.std.specs.List.{Contains, list_any};
     ghost use Rattle.std.specs.Str.{bytes_eq};
     ghost use Rattle.command.specs.Ancestors.{is_parent, places_without};
+    ghost use Rattle.command.specs.Closed.{place_of};
+    ghost use Rattle.command.specs.Kinds.{parents_of};
+    ghost use Rattle.graph_set.specs.working.Walks.{IsNumbered, MarksWhere};
 
     /// The ids of all parents.
     fn parents(&self, alloc: Global) -> Result<IndexSet<Id>, NoMemory>
@@ -61,6 +65,37 @@ impl ListGraph {
             add_head(alloc, &mut places, ids, &self.id_at(place), place)?;
         }
         Ok(places)
+    }
+
+    /// Finds the command with this id, unless it is older than the oldest of the walk.
+    fn find(&self, walk: &mut Walk, older: usize, id: &Id) -> Result<(), NoMemory>
+        requires { (p : ℕ) → place_of (values self.now.commands) id.now ≡ Some p → p < older + length walk.old.marks.items }
+        ensures { OnOk result (MarksWhere (IsNumbered (values self.now.commands) older (id.now ∷ [])) walk.old.marks.items walk.old.due.items walk.new.marks.items walk.new.due.items) }
+    {
+        match self.place_of(id) {
+            Some(place) if older <= place => walk.add(place - older),
+            _ => Ok(()),
+        }
+    }
+
+    /// The same for each of some ids.
+    fn find_all(&self, walk: &mut Walk, older: usize, ids: &[Id]) -> Result<(), NoMemory>
+        requires { (id : List ℕ) (p : ℕ) → Contains ids.now id → place_of (values self.now.commands) id ≡ Some p → p < older + length walk.old.marks.items }
+        ensures { OnOk result (MarksWhere (IsNumbered (values self.now.commands) older ids.now) walk.old.marks.items walk.old.due.items walk.new.marks.items walk.new.due.items) }
+    {
+        for id in ids {
+            self.find(walk, older, id)?;
+        }
+        Ok(())
+    }
+
+    /// Finds the parents of a command.
+    fn find_parents(&self, walk: &mut Walk, older: usize, command: &Command) -> Result<(), NoMemory>
+        requires { (id : List ℕ) (p : ℕ) → Contains (parents_of command.now) id → place_of (values self.now.commands) id ≡ Some p → p < older + length walk.old.marks.items }
+        ensures { OnOk result (MarksWhere (IsNumbered (values self.now.commands) older (parents_of command.now)) walk.old.marks.items walk.old.due.items walk.new.marks.items walk.new.due.items) }
+    {
+        let parents = command.parents();
+        self.find_all(walk, older, parents.as_slice())
     }
 }
 
@@ -108,12 +143,11 @@ impl Graph for ListGraph {
         if newer <= older {
             return Ok(false);
         }
-        let mut reached = IndexSet::new(alloc);
-        reached.insert(self.id_at(older))?;
-        for place in older..newer {
-            go_on(&mut reached, self.at(place), &self.id_at(place))?;
+        let mut walk = Walk::begin(alloc, newer - older)?;
+        while let Some(number) = walk.next() {
+            self.find_parents(&mut walk, older, self.at(older + number))?;
         }
-        Ok(has_parent_among(&reached, self.at(newer)))
+        Ok(walk.is_ended())
     }
 
     fn heads(&self, alloc: Global) -> Result<Places, NoMemory> {

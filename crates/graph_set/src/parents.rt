@@ -2,30 +2,12 @@ ghost use Rattle.std.specs.Prelude.{◌≡◌, ◌||◌, if◌then◌else◌, �
 ghost use Rattle.std.specs.List.{list_any};
 ghost use Rattle.std.specs.Str.{bytes_eq};
 ghost use Rattle.command.specs.Kinds.{parents_of};
-ghost use Rattle.graph_set.specs.working.Held.{AreAdded, GoesOn, IsAdded, has_parent_among};
+ghost use Rattle.graph_set.specs.working.Held.{AreAdded, IsAdded};
 
 use base_bytes::{Id, NoMemory};
 use command::{Command, Places};
 use indexmap::IndexSet;
 use std::alloc::Global;
-
-/// Whether some parent of the command is among the ids.
-pub fn has_parent_among(ids: &IndexSet<Id>, command: &Command) -> bool
-    ensures { result ≡ has_parent_among ids.now.keys command.now }
-{
-    let parents = command.parents();
-    parents.as_slice().iter().any(|parent| ids.contains(parent))
-}
-
-/// Puts the command's id among the ids where a parent of it is there.
-pub fn go_on(ids: &mut IndexSet<Id>, command: &Command, id: &Id) -> Result<(), NoMemory>
-    ensures { OnOk result (GoesOn ids.old.keys command.now id.now ids.new.keys) }
-{
-    if has_parent_among(ids, command) {
-        add(ids, id)?;
-    }
-    Ok(())
-}
 
 /// Puts the parents of the command among the ids.
 pub fn add_parents(ids: &mut IndexSet<Id>, command: &Command) -> Result<(), NoMemory>

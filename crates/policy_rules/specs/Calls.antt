@@ -1,5 +1,5 @@
 -- Chains of calls: which names an item calls, and how many calls follow one another.
-use Rattle.std.specs.Prelude.{ℕ, zero, suc, Bool, true, false, ◌&&◌, List, [], ◌∷◌, Option, Some, None, unwrap_or}
+use Rattle.std.specs.Prelude.{ℕ, zero, suc, Bool, true, false, ◌&&◌, List, Option, Some, None, unwrap_or}
 use Rattle.std.specs.List.{list_all}
 use Rattle.policy_ast.specs.declared.bind.Bind.{Bind}
 use Rattle.policy_ast.specs.declared.expr.ElseExpr.{ElseExpr}
@@ -22,26 +22,37 @@ use Rattle.policy_ast.specs.declared.statement.Stmt.TheOpen.{Stmt-F}
 use Rattle.policy_rules.specs.Expressions.{value_part}
 use Rattle.policy_rules.specs.Names.{Name, item_named}
 
+-- Each of these holds.
 abbrev pub all_hold : List Bool → Bool
 all_hold = list_all (λ b. b)
 
+-- Each expression that is bound does.
 abbrev pub binds_hold : List (Bind Bool) → Bool
 binds_hold = list_all (λ b. b.value)
 
+-- Each expression does, where one stands in place of a `?`.
 abbrev pub gaps_hold : List (Free Bool) → Bool
 gaps_hold = list_all (λ f. unwrap_or f.value true)
 
+-- Each expression of a pattern does.
 abbrev pub pattern_holds : Pattern Bool → Bool
 pattern_holds p = gaps_hold p.keys && gaps_hold (value_part p.values)
 
+-- Each `let` of a block does, and its value.
 abbrev pub block_holds : ExprBlock Bool → Bool
 block_holds b = list_all (λ l. l.value) b.lets && b.value
 
+-- What follows `else` does.
 abbrev pub else_holds : ElseExpr Bool → Bool
 else_holds (else_expr.Block b) = block_holds b
 else_holds (else_expr.If e) = e
 
-module _ (may_call : Name → Bool) where
+-- What is called: a function, by an expression, or a finish function, by a statement of `finish`.
+pub data Callee : Type 0 where
+  a_function : Callee
+  a_finish_function : Callee
+
+module _ (may_call : Callee → Name → Bool) where
   -- one layer of an expression, where the parts say whether they do
   abbrev pub expression_calls_layer : Expr-F Bool → Bool
   expression_calls_layer (Expr-F.Or a b) = a && b
@@ -56,7 +67,7 @@ module _ (may_call : Name → Bool) where
   expression_calls_layer Expr-F.This = true
   expression_calls_layer (Expr-F.Name name) = true
   expression_calls_layer (Expr-F.ForeignCall of called arguments) = all_hold arguments
-  expression_calls_layer (Expr-F.Call called arguments) = may_call called && all_hold arguments
+  expression_calls_layer (Expr-F.Call called arguments) = may_call a_function called && all_hold arguments
   expression_calls_layer (Expr-F.Struct name binds) = binds_hold binds
   expression_calls_layer (Expr-F.Arithmetic op a b) = a && b
   expression_calls_layer (Expr-F.Query p) = pattern_holds p
@@ -68,32 +79,38 @@ module _ (may_call : Name → Bool) where
   abbrev pub expression_calls : Expr → Bool
   expression_calls = fold-Expr Bool expression_calls_layer
 
+  -- The same of expressions that are bound.
   abbrev pub binds_call : List (Bind Expr) → Bool
   binds_call = list_all (λ b. expression_calls b.value)
 
+  -- The same where a `?` may stand.
   abbrev pub gap_calls : Option Expr → Bool
   gap_calls None = true
   gap_calls (Some e) = expression_calls e
 
+  -- The same of a part of a pattern.
   abbrev pub gaps_call : List (Free Expr) → Bool
   gaps_call = list_all (λ f. gap_calls f.value)
 
+  -- The same of a pattern.
   abbrev pub pattern_calls : Pattern Expr → Bool
   pattern_calls p = gaps_call p.keys && gaps_call (value_part p.values)
 
-  -- A statement of `finish` calls only finish functions that may be called.
+  -- A statement of `finish` calls only what may be called.
   abbrev pub finish_calls : FinishStmt → Bool
   finish_calls (finish.Create name keys values) = binds_call keys && binds_call values
   finish_calls (finish.Update p to) = pattern_calls p && binds_call to
   finish_calls (finish.Delete name keys) = binds_call keys
   finish_calls (finish.Emit e) = expression_calls e
-  finish_calls (finish.Call called arguments) = may_call called && list_all expression_calls arguments
+  finish_calls (finish.Call called arguments) = may_call a_finish_function called && list_all expression_calls arguments
 
+  -- What follows `else`, if anything, does.
   abbrev pub else_stmt_calls : Option (Else Bool) → Bool
   else_stmt_calls None = true
   else_stmt_calls (Some (else_stmt.Block body)) = all_hold body
   else_stmt_calls (Some (else_stmt.If s)) = s
 
+  -- One layer of a statement, where the statements inside say whether they do.
   abbrev pub statement_calls_layer : Stmt-F Bool → Bool
   statement_calls_layer (Stmt-F.Let l) = expression_calls l.value
   statement_calls_layer (Stmt-F.Check e) = expression_calls e
@@ -108,6 +125,7 @@ module _ (may_call : Name → Bool) where
   abbrev pub statement_calls : Stmt → Bool
   statement_calls = fold-Stmt Bool statement_calls_layer
 
+  -- A section of a command calls only what may be called.
   abbrev pub section_calls : Section → Bool
   section_calls (section.Policy body) = list_all statement_calls body
   section_calls (section.Recall body) = list_all statement_calls body
@@ -121,17 +139,24 @@ module _ (may_call : Name → Bool) where
   item_calls (item.Action name parameters body) = list_all statement_calls body
   item_calls other = true
 
-  -- The same of what a called name means: a function or a finish function.
-  abbrev pub called_calls : Option Item → Bool
-  called_calls (Some (item.Function name parameters result body)) = list_all statement_calls body
-  called_calls (Some (item.FinishFunction name parameters body)) = list_all finish_calls body
-  called_calls other = true
+  -- The same of the function or the finish function that a called name means; a name that means no such thing is no call.
+  abbrev pub called_calls : Callee → Option Item → Bool
+  called_calls a_function (Some (item.Function name parameters result body)) = list_all statement_calls body
+  called_calls a_finish_function (Some (item.FinishFunction name parameters body)) = list_all finish_calls body
+  called_calls callee other = true
 
--- A call of this name begins a chain of at most n calls, itself counted. So no function reaches itself.
-abbrev pub chain_within : List Item → ℕ → Name → Bool
-chain_within items zero name = false
-chain_within items (suc n) name = called_calls (chain_within items n) (item_named items name)
+-- What a name means isn't what is called there.
+abbrev pub is_no_call : Callee → Option Item → Bool
+is_no_call a_function (Some (item.Function name parameters result body)) = false
+is_no_call a_finish_function (Some (item.FinishFunction name parameters body)) = false
+is_no_call callee other = true
 
+-- A call by this name begins a chain of at most n calls, itself counted. So no function reaches itself.
+abbrev pub chain_within : List Item → ℕ → Callee → Name → Bool
+chain_within items zero callee name = is_no_call callee (item_named items name)
+chain_within items (suc n) callee name = called_calls (chain_within items n) callee (item_named items name)
+
+-- So many calls may follow one another.
 abbrev pub longest_chain : ℕ
 longest_chain = 16
 

@@ -1,11 +1,10 @@
 -- What a map from ids to commands holds, where it is a graph.
-use Rattle.std.specs.Prelude.{◌≡◌, ℕ, ◌≤◌, Bool, true, false, ◌||◌, List, length, map}
+use Rattle.std.specs.Prelude.{◌≡◌, ℕ, ◌≤◌, ◌||◌, List, length, map}
 use Rattle.std.specs.List.{list_any}
 use Rattle.std.specs.Str.{bytes_eq}
 use Rattle.std.proofs.Props.{props}
 use Rattle.command.specs.declared.command.Command.{Command}
 use Rattle.command.specs.Closed.{IsClosed, max_commands}
-use Rattle.command.specs.Kinds.{parents_of}
 use Rattle.command.specs.working.Propositions.{closed_prop}
 use Rattle.command.specs.Wire.{command_id}
 
@@ -25,12 +24,3 @@ IsAdded ids one next = (id : List ℕ) → list_any (bytes_eq id) next ≡ (list
 -- the ids with others more
 abbrev pub AreAdded : List (List ℕ) → List (List ℕ) → List (List ℕ) → Type 0
 AreAdded ids others next = (id : List ℕ) → list_any (bytes_eq id) next ≡ (list_any (bytes_eq id) ids || list_any (bytes_eq id) others)
-
--- whether a parent of the command is among the ids
-abbrev pub has_parent_among : List (List ℕ) → Command → Bool
-has_parent_among ids c = list_any (λ parent. list_any (bytes_eq parent) ids) (parents_of c)
-
--- the ids with that of the command, where a parent of it is among them
-pub record GoesOn (ids : List (List ℕ)) (c : Command) (id : List ℕ) (next : List (List ℕ)) : Type 0 where
-  pub kept : has_parent_among ids c ≡ false → next ≡ ids
-  pub more : has_parent_among ids c ≡ true → IsAdded ids id next

@@ -1,9 +1,10 @@
-use Rattle.std.proofs.Common.{take}
-use Rattle.command.specs.Ancestors.{IsAt}
-use Rattle.command.specs.declared.command.Command.{Command}
-use Rattle.command.proofs.ReachFacts.{AreReached}
+use Rattle.std.proofs.Common.{◌+◌, length}
 use Rattle.indexmap.specs.IndexMap.{values}
+use Rattle.graph_set.specs.working.Walks.{IsWalked, unmarked}
 use Rattle.graph_set.proofs.list_graph.ListGraphGraph.is_ancestor.Given as goal
 
-abbrev pub invariant-loop-place : goal.invariant-loop-place
-invariant-loop-place l = (x : Command) → IsAt (values l.self.commands) l.older x → AreReached (values l.self.commands) x (take l.place (values l.self.commands)) l.reached.keys
+abbrev pub invariant-loop-number : goal.invariant-loop-number
+invariant-loop-number l = IsWalked (values l.self.commands) l.older l.newer l.walk.marks.items l.walk.due.items
+
+abbrev pub decreases-loop-number : goal.decreases-loop-number
+decreases-loop-number l = unmarked l.walk.marks.items + length l.walk.due.items
