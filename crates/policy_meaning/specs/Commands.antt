@@ -12,7 +12,7 @@ use Rattle.command.specs.declared.command.Command.TheVariants as command
 use Rattle.fact_store.specs.declared.row.Row.{Row}
 use Rattle.policy_ast.specs.declared.item.Item.{Item}
 use Rattle.policy_ast.specs.declared.policy.PlacedItem.{PlacedItem}
-use Rattle.policy_meaning.specs.Applying.{Ended, Passes, Checks}
+use Rattle.policy_meaning.specs.Applying.{Ended, Passes, Checks, Faults}
 use Rattle.policy_meaning.specs.Blocks.{policy_block, recall_block}
 use Rattle.policy_meaning.specs.Values.{struct_parts}
 use Rattle.policy_meaning.specs.declared.call.Call.{Call}
@@ -64,17 +64,22 @@ pub data Judged : Type 0 where
   Pass : (rows : List Row) → (effects : List Effect) → Judged
   Recalled : (rows : List Row) → (effects : List Effect) → Judged
   Void : Judged
+  -- no block of a well-typed policy comes to this
+  Sticks : Judged
 
 -- After a check of the policy failed: a failed check or a fault of the recall changes nothing.
 abbrev pub recalled : Ended → Judged
 recalled (Passes rows effects) = Recalled rows effects
-recalled other = Void
+recalled (Checks named) = Void
+recalled (Faults kind) = Void
+recalled other = Sticks
 
 -- By how the policy block ends; after a fault no recall is run.
 abbrev pub judged_by : Ended → Ended → Judged
 judged_by (Passes rows effects) recall = Pass rows effects
 judged_by (Checks named) recall = recalled recall
-judged_by other recall = Void
+judged_by (Faults kind) recall = Void
+judged_by other recall = Sticks
 
 abbrev pub call_judged : List PlacedItem → List Row → Option Call → Judged
 call_judged policy rows None = Void

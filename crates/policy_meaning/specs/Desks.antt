@@ -36,10 +36,10 @@ abbrev pub Stay : Posted → List Row → List Row → Type 0
 Stay posted.Taken old new = Unit {0}
 Stay other old new = new ≡ old
 
--- Postings one after another, from one desk and its facts to another.
+-- Postings one after another, from one desk and its facts to another; one that isn't taken leaves the facts.
 abbrev pub Chain : {D : Type 0} → (D → List Row → Posting → D → Type 0) → D → List Row → List Posting → D → List Row → Type 0
 Chain publishes old rows [] new last = (new ≡ old) × (last ≡ rows)
-Chain {D} publishes old rows (p ∷ more) new last = (mid : D) × publishes old rows p mid × Chain publishes mid p.rows more new last
+Chain {D} publishes old rows (p ∷ more) new last = (mid : D) × publishes old rows p mid × Stay p.posted rows p.rows × Chain publishes mid p.rows more new last
 
 -- With just these answers the action publishes just this, and ends so.
 pub record IsActed (policy : List PlacedItem) (action : ℕ) (arguments : List Value) (device : List ℕ) (rows : List Row) (postings : List Posting) (end : ActionEnd) : Type 0 where

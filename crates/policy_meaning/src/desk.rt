@@ -24,8 +24,8 @@ pub trait Desk<F: FactBase> {
     /// From this state and these facts a publish may go so, and leave that state.
     ghost publishes: { Self → List Row → Posting → Self → Type 0 };
 
-    /// Takes a command of this number and these fields, which are of the declared types, or doesn't. The facts are those of the policy's types,
-    /// before and after.
+    /// Takes a command of this number and these fields, which are of the declared types, or doesn't. The facts are those of the policy's types
+    /// before, and after every answer but out of memory.
     fn publish<L: Ledger>(
         &mut self,
         alloc: Global,
@@ -39,7 +39,7 @@ pub trait Desk<F: FactBase> {
         ensures publishes { IfOk result (λ posted. Publishes publishes self.old (F.rows facts.old) command fields posted steps.old steps.new self.new (F.rows facts.new)) }
         ensures stay { IfOk result (λ posted. Stay posted (F.rows facts.old) (F.rows facts.new)) }
         ensures keeps { keeps self.old self.new }
-        ensures policy { OnOk result (policy self.new ≡ policy self.old) }
+        ensures policy { policy self.new ≡ policy self.old }
         ensures typed { OnOk result (AreTyped (policy self.old) (F.rows facts.new)) };
 
     ghost keeps_itself: { (desk : Self) → keeps desk desk };

@@ -52,6 +52,17 @@ impl Effects {
         }
     }
 
+    /// Copies of the effects.
+    pub fn from_slice(alloc: Global, effects: &[Effect]) -> Result<Effects, NoMemory>
+        ensures { IfOk result (λ it. it ≡ effects.now) }
+    {
+        let mut all = Effects::new(alloc);
+        for effect in effects {
+            all.push(alloc, effect.copy(alloc)?)?;
+        }
+        Ok(all)
+    }
+
     pub fn as_slice(&self) -> &[Effect]
         ensures { result.now ≡ self.now }
     {
@@ -65,7 +76,7 @@ impl Effects {
     }
 
     /// Adds one effect at the end; without memory the effects stay as they were.
-    pub fn push(&mut self, effect: Effect) -> Result<(), NoMemory>
+    pub fn push(&mut self, _alloc: Global, effect: Effect) -> Result<(), NoMemory>
         ensures ok { OnOk result (self.new ≡ self.old ++ effect ∷ []) }
         ensures err { OnErr result (self.new ≡ self.old) }
     {
@@ -76,10 +87,6 @@ impl Effects {
     pub fn copy(&self, alloc: Global) -> Result<Effects, NoMemory>
         ensures { IfOk result (λ other. other ≡ self.now) }
     {
-        let mut effects = Items::new(alloc);
-        for effect in self.as_slice() {
-            effects.push(effect.copy(alloc)?)?;
-        }
-        Ok(Effects { effects })
+        Effects::from_slice(alloc, self.as_slice())
     }
 }

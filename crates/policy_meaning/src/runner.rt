@@ -38,7 +38,7 @@ pub trait Runner {
         ensures runs { IfOk result (λ verdict. Runs (policy_block (rules self.now) call.now (F.rows facts.old)) verdict (F.rows facts.old) (F.rows facts.new)) }
         ensures typed { OnOk result (AreTyped (rules self.now) (F.rows facts.new)) }
         ensures effects { IfOk result (λ verdict. AreEffectsOf (rules self.now) (effects_of verdict)) }
-        ensures tick { OnOk result (steps.new ≡ steps.old + 1) };
+        ensures tick { steps.new ≡ steps.old + 1 };
 
     /// The same of the recall block. An absent one passes, with no writes.
     fn run_recall<F: FactBase, L: Ledger>(
@@ -53,10 +53,10 @@ pub trait Runner {
         ensures runs { IfOk result (λ verdict. Runs (recall_block (rules self.now) call.now (F.rows facts.old)) verdict (F.rows facts.old) (F.rows facts.new)) }
         ensures typed { OnOk result (AreTyped (rules self.now) (F.rows facts.new)) }
         ensures effects { IfOk result (λ verdict. AreEffectsOf (rules self.now) (effects_of verdict)) }
-        ensures tick { OnOk result (steps.new ≡ steps.old + 1) };
+        ensures tick { steps.new ≡ steps.old + 1 };
 
     /// Runs the body of an action over the facts, and calls the desk at each publish. It takes just the ticks that the desk takes. The facts are
-    /// those that the publishes left, whatever the end, so callers work on a copy.
+    /// those that the publishes left, whatever the end, so callers work on a copy; without memory they are open.
     fn run_action<F: FactBase, P: Desk<F>, L: Ledger>(
         &self,
         alloc: Global,
@@ -72,6 +72,6 @@ pub trait Runner {
         requires typed { AreTyped (rules self.now) (F.rows facts.old) }
         ensures runs { IfOk result (λ end. ActionRun P.publishes (rules self.now) action args.now device.now desk.old (F.rows facts.old) end steps.old steps.new desk.new (F.rows facts.new)) }
         ensures keeps { P.keeps desk.old desk.new }
-        ensures policy { OnOk result (P.policy desk.new ≡ rules self.now) }
+        ensures policy { P.policy desk.new ≡ rules self.now }
         ensures typed { OnOk result (AreTyped (rules self.now) (F.rows facts.new)) };
 }
