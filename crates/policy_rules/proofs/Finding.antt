@@ -1,5 +1,5 @@
 -- What is inferred of an expression is what the rules give it as its type.
-use Rattle.std.proofs.Common.{◌≡◌, ℕ, ℤ, Bool, true, false, ◌&&◌, ◌||◌, List, [], ◌∷◌, codes, map, Option, Some, None, refl, sym, ap, subst, ◌∙◌}
+use Rattle.std.proofs.Common.{◌≡◌, Bool, true, false, ◌&&◌, List, [], ◌∷◌, codes, map, Option, Some, None, refl, sym, ap, subst, ◌∙◌}
 use Rattle.std.proofs.lemmas.Bool.{false≢true}
 use Rattle.std.proofs.lemmas.Option.{same_Some}
 use Rattle.std.proofs.lemmas.Slice.Eq.{bytes_eq-Decides}
@@ -35,14 +35,14 @@ use Rattle.policy_rules.specs.declared.context.Context.{Context}
 use Rattle.policy_rules.specs.declared.types.NamedType.{NamedType, out-NamedType, roll-NamedType, roll-out-NamedType}
 use Rattle.policy_rules.specs.declared.types.NamedType.TheOpen.{NamedType-F}
 use Rattle.policy_rules.specs.declared.types.NamedType.TheVariants as ty
-use Rattle.policy_rules.specs.working.Inference.{Found, all_types, block_type, compared_type, else_type, envelope_layer, found, found_layer, gap_types, inferred, inner_layer, inner_of, introduced, is_action_block, is_bool, is_bool_layer, is_command_block, is_foreign_call, is_int, is_int_layer, is_nothing, is_one_envelope, logic_of, only_if, pattern_of, struct_layer, struct_of, type_layer, unary_type}
+use Rattle.policy_rules.specs.working.Inference.{Found, all_types, block_type, compared_type, else_type, envelope_layer, found, found_layer, gap_types, inferred, inner_layer, inner_of, introduced, is_action_block, is_bool, is_bool_layer, is_command_block, is_foreign_call, is_int, is_int_layer, is_nothing, is_one_envelope, only_if, pattern_of, struct_layer, struct_of, type_layer, unary_type}
 
 -- ---- taking answers apart
 
-same_some : {A : Type 0} {x y : A} → Some x ≡ Some y → x ≡ y
+pub same_some : {A : Type 0} {x y : A} → Some x ≡ Some y → x ≡ y
 same_some {x = x} {y = y} is = same_Some x y is
 
-only_if_then : {A P : Type 0} (b : Bool) (o : Option A) (y : A) → only_if b o ≡ Some y → (b ≡ true → o ≡ Some y → P) → P
+pub only_if_then : {A P : Type 0} (b : Bool) (o : Option A) (y : A) → only_if b o ≡ Some y → (b ≡ true → o ≡ Some y → P) → P
 only_if_then true o y is go = go refl is
 only_if_then false o y is go = absurd (cc)
 
@@ -50,7 +50,7 @@ bool_from : (l : NamedType-F NamedType) → is_bool_layer l ≡ true → roll-Na
 bool_from NamedType-F.Bool is = ty.rolls-Bool
 bool_from l is = absurd (false≢true is)
 
-bool_then : (t : NamedType) → is_bool t ≡ true → t ≡ ty.Bool
+pub bool_then : (t : NamedType) → is_bool t ≡ true → t ≡ ty.Bool
 bool_then t is = sym (roll-out-NamedType t) ∙ bool_from (out-NamedType t) is
 
 int_from : (l : NamedType-F NamedType) → is_int_layer l ≡ true → roll-NamedType l ≡ ty.Int
@@ -71,14 +71,14 @@ struct_from : (l : NamedType-F NamedType) (name : Name) → struct_layer l ≡ S
 struct_from (NamedType-F.Struct other) name is = ty.rolls-Struct other ∙ ap ty.Struct (same_some is)
 struct_from l name is = absurd (cc)
 
-struct_then : (t : NamedType) (name : Name) → struct_of t ≡ Some name → t ≡ ty.Struct name
+pub struct_then : (t : NamedType) (name : Name) → struct_of t ≡ Some name → t ≡ ty.Struct name
 struct_then t name is = sym (roll-out-NamedType t) ∙ struct_from (out-NamedType t) name is
 
-command_block_then : (b : Block) → is_command_block b ≡ true → b ≡ block.Command
+pub command_block_then : (b : Block) → is_command_block b ≡ true → b ≡ block.Command
 command_block_then block.Command is = refl
 command_block_then b is = absurd (false≢true is)
 
-action_block_then : (b : Block) → is_action_block b ≡ true → b ≡ block.Action
+pub action_block_then : (b : Block) → is_action_block b ≡ true → b ≡ block.Action
 action_block_then block.Action is = refl
 action_block_then b is = absurd (false≢true is)
 
@@ -87,7 +87,7 @@ both_then : {P : Type 0} (test : NamedType → Bool) (w : NamedType) (only : (t 
     → o ≡ Some t → p ≡ Some u → only_if (test t && test u) (Some r) ≡ Some s → (o ≡ Some w → p ≡ Some w → s ≡ r → P) → P
 both_then test w only o p t u r s is is_too both go =
     only_if_then (test t && test u) (Some r) s both (λ b same. and_then (test t) (test u) b (λ one other.
-      go (is ∙ ap Some (only t one)) (is_too ∙ ap Some (only u other)) (sym (same_some same))))
+    go (is ∙ ap Some (only t one)) (is_too ∙ ap Some (only u other)) (sym (same_some same))))
 
 module _ (items : List Item) (context : Context) where
   abbrev find : Expr → Found
@@ -128,15 +128,15 @@ module _ (items : List Item) (context : Context) where
   all_found [] scope types is = rw (sym (same_some is)) rules.no_types
   all_found (c ∷ cs) scope types is =
       bind_then (inferred items context c.0 scope) _ types is (λ t has rest. map_then (all_types (map find (map tree cs)) scope) _ types rest (λ more all same.
-        rw (sym same) (rules.more_types (c.1 scope t has) (all_found cs scope more all))))
+      rw (sym same) (rules.more_types (c.1 scope t has) (all_found cs scope more all))))
 
   binds_found : (bs : List (Bind Child)) (scope : Scope) (types : List NamedType)
       → all_types (map (λ b. b.value) (map (map_bind find) (map (map_bind tree) bs))) scope ≡ Some types → HaveTypes items context scope (map (λ b. b.value) (map (map_bind tree) bs)) types
   binds_found [] scope types is = rw (sym (same_some is)) rules.no_types
   binds_found (b ∷ bs) scope types is =
       bind_then (inferred items context b.value.0 scope) _ types is (λ t has rest.
-        map_then (all_types (map (λ b. b.value) (map (map_bind find) (map (map_bind tree) bs))) scope) _ types rest (λ more all same.
-          rw (sym same) (rules.more_types (b.value.1 scope t has) (binds_found bs scope more all))))
+      map_then (all_types (map (λ b. b.value) (map (map_bind find) (map (map_bind tree) bs))) scope) _ types rest (λ more all same.
+      rw (sym same) (rules.more_types (b.value.1 scope t has) (binds_found bs scope more all))))
 
   -- the gaps of a part of a pattern
   abbrev gaps_in : List (Free Child) → List (Option Found)
@@ -152,7 +152,7 @@ module _ (items : List Item) (context : Context) where
   gap_found None founds trees later scope types is = map_then (gap_types founds scope) _ types is (λ more all same. rw (sym same) (rules.gap (later scope more all)))
   gap_found (Some c) founds trees later scope types is =
       bind_then (inferred items context c.0 scope) _ types is (λ t has rest. map_then (gap_types founds scope) _ types rest (λ more all same.
-        rw (sym same) (rules.no_gap (c.1 scope t has) (later scope more all))))
+      rw (sym same) (rules.no_gap (c.1 scope t has) (later scope more all))))
 
   gaps_found : (xs : List (Free Child)) → GapsFound (gaps_in xs) (gap_trees xs)
   gaps_found [] scope types is = rw (sym (same_some is)) rules.no_gaps
@@ -172,22 +172,22 @@ module _ (items : List Item) (context : Context) where
       → (IsPattern items context scope (map_pattern tree p) → t ≡ u → P) → P
   pattern_found p scope u t is go =
       bind_then (fact_named items p.fact) _ t is (λ fact named rest. bind_then (gap_types (gaps_in p.keys) scope) _ t rest (λ keys ks others.
-        bind_then (gap_types (map (λ x. x.value) (value_part (map_values find (map_values tree p.values)))) scope) _ t others (λ values vs last.
-          only_if_then (pattern_fits fact (map (λ x. x.name) (map (map_free find) (map (map_free tree) p.keys))) keys
-              (map (λ x. x.name) (value_part (map_values find (map_values tree p.values)))) values) (Some u) t last (λ fit same.
-            go (rules.pattern_of fact keys values named (gaps_found p.keys scope keys ks) (values_found p.values scope values vs)
-                (ap (λ names. pattern_fits fact names keys (map (λ x. x.name) (value_part (map_values tree p.values))) values) (sym (free_names find (map (map_free tree) p.keys)))
-                  ∙ ap (λ names. pattern_fits fact (map (λ x. x.name) (map (map_free find) (map (map_free tree) p.keys))) keys names values) (sym (value_names (map_values tree p.values)))
-                  ∙ fit))
-              (sym (same_some same))))))
+      bind_then (gap_types (map (λ x. x.value) (value_part (map_values find (map_values tree p.values)))) scope) _ t others (λ values vs last.
+      only_if_then (pattern_fits fact (map (λ x. x.name) (map (map_free find) (map (map_free tree) p.keys))) keys
+      (map (λ x. x.name) (value_part (map_values find (map_values tree p.values)))) values) (Some u) t last (λ fit same.
+      go (rules.pattern_of fact keys values named (gaps_found p.keys scope keys ks) (values_found p.values scope values vs)
+      (ap (λ names. pattern_fits fact names keys (map (λ x. x.name) (value_part (map_values tree p.values))) values) (sym (free_names find (map (map_free tree) p.keys)))
+      ∙ ap (λ names. pattern_fits fact (map (λ x. x.name) (map (map_free find) (map (map_free tree) p.keys))) keys names values) (sym (value_names (map_values tree p.values)))
+      ∙ fit))
+      (sym (same_some same))))))
 
   lets_found : (ls : List (Let Child)) (scope after : Scope) → introduced items context (map (map_let find) (map (map_let tree) ls)) scope ≡ Some after
       → Introduce items context scope (map (map_let tree) ls) after
   lets_found [] scope after is = rw (sym (same_some is)) rules.no_lets
   lets_found (l ∷ ls) scope after is =
       bind_then (inferred items context l.value.0 scope) _ after is (λ t has rest.
-        only_if_then (may_introduce items context scope l.name) (introduced items context (map (map_let find) (map (map_let tree) ls)) (with_name scope l.name t)) after rest (λ may more.
-          rules.more_lets t (l.value.1 scope t has) may (lets_found ls (with_name scope l.name t) after more)))
+      only_if_then (may_introduce items context scope l.name) (introduced items context (map (map_let find) (map (map_let tree) ls)) (with_name scope l.name t)) after rest (λ may more.
+      rules.more_lets t (l.value.1 scope t has) may (lets_found ls (with_name scope l.name t) after more)))
 
   block_found : (b : ExprBlock Child) (scope : Scope) (t : NamedType) → block_type items context (map_block find (map_block tree b)) scope ≡ Some t → HasBlockType items context scope (map_block tree b) t
   block_found b scope t is =
@@ -209,20 +209,20 @@ module _ (items : List Item) (context : Context) where
   or_found : (a b : Child) → FindsLayer (Expr-F.Or a b)
   or_found a b scope t is =
       bind_then (inferred items context a.0 scope) _ t is (λ u one rest. bind_then (inferred items context b.0 scope) _ t rest (λ w other last.
-        both_then is_bool ty.Bool bool_then (inferred items context a.0 scope) (inferred items context b.0 scope) u w ty.Bool t one other last (λ p q same.
-          rw same (rules.or (a.1 scope ty.Bool p) (b.1 scope ty.Bool q)))))
+      both_then is_bool ty.Bool bool_then (inferred items context a.0 scope) (inferred items context b.0 scope) u w ty.Bool t one other last (λ p q same.
+      rw same (rules.or (a.1 scope ty.Bool p) (b.1 scope ty.Bool q)))))
 
   and_found : (a b : Child) → FindsLayer (Expr-F.And a b)
   and_found a b scope t is =
       bind_then (inferred items context a.0 scope) _ t is (λ u one rest. bind_then (inferred items context b.0 scope) _ t rest (λ w other last.
-        both_then is_bool ty.Bool bool_then (inferred items context a.0 scope) (inferred items context b.0 scope) u w ty.Bool t one other last (λ p q same.
-          rw same (rules.and (a.1 scope ty.Bool p) (b.1 scope ty.Bool q)))))
+      both_then is_bool ty.Bool bool_then (inferred items context a.0 scope) (inferred items context b.0 scope) u w ty.Bool t one other last (λ p q same.
+      rw same (rules.and (a.1 scope ty.Bool p) (b.1 scope ty.Bool q)))))
 
   calculation_found : (op : Arithmetic) (a b : Child) → FindsLayer (Expr-F.Arithmetic op a b)
   calculation_found op a b scope t is =
       bind_then (inferred items context a.0 scope) _ t is (λ u one rest. bind_then (inferred items context b.0 scope) _ t rest (λ w other last.
-        both_then is_int ty.Int int_then (inferred items context a.0 scope) (inferred items context b.0 scope) u w (arithmetic_type op) t one other last (λ p q same.
-          rw same (rules.calculation (a.1 scope ty.Int p) (b.1 scope ty.Int q)))))
+      both_then is_int ty.Int int_then (inferred items context a.0 scope) (inferred items context b.0 scope) u w (arithmetic_type op) t one other last (λ p q same.
+      rw same (rules.calculation (a.1 scope ty.Int p) (b.1 scope ty.Int q)))))
 
   compared_found : (op : Comparison) (a b : Child) (scope : Scope) (t u w : NamedType) → inferred items context a.0 scope ≡ Some u → inferred items context b.0 scope ≡ Some w
       → (is_equal : Bool) → is_equality op ≡ is_equal → compared_type is_equal u w ≡ Some t → HasTypeByForm items context scope (Expr-F.Compare a.0 op b.0) t
@@ -230,12 +230,12 @@ module _ (items : List Item) (context : Context) where
       map_then (joined u w) _ t last (λ v join same. rw (sym same) (rules.equality u w v is (a.1 scope u one) (b.1 scope w other) join))
   compared_found op a b scope t u w one other false is last =
       both_then is_int ty.Int int_then (inferred items context a.0 scope) (inferred items context b.0 scope) u w ty.Bool t one other last (λ p q same.
-        rw same (rules.order is (a.1 scope ty.Int p) (b.1 scope ty.Int q)))
+      rw same (rules.order is (a.1 scope ty.Int p) (b.1 scope ty.Int q)))
 
   compare_found : (a : Child) (op : Comparison) (b : Child) → FindsLayer (Expr-F.Compare a op b)
   compare_found a op b scope t is =
       bind_then (inferred items context a.0 scope) _ t is (λ u one rest. bind_then (inferred items context b.0 scope) _ t rest (λ w other last.
-        compared_found op a b scope t u w one other (is_equality op) refl last))
+      compared_found op a b scope t u w one other (is_equality op) refl last))
 
   unary_found : (op : Unary) (a : Child) (scope : Scope) (t u : NamedType) → inferred items context a.0 scope ≡ Some u → unary_type op u ≡ Some t → HasTypeByForm items context scope (Expr-F.Unary op a.0) t
   unary_found unary.Not a scope t u one last =
@@ -246,7 +246,7 @@ module _ (items : List Item) (context : Context) where
   field_found : (a : Child) (name : Name) → FindsLayer (Expr-F.Field a name)
   field_found a name scope t is =
       bind_then (inferred items context a.0 scope) _ t is (λ u one rest. bind_then (struct_of u) _ t rest (λ struct_name of more. bind_then (struct_named items struct_name) _ t more (λ fields named last.
-        rules.field struct_name fields (a.1 scope (ty.Struct struct_name) (one ∙ ap Some (struct_then u struct_name of))) named last)))
+      rules.field struct_name fields (a.1 scope (ty.Struct struct_name) (one ∙ ap Some (struct_then u struct_name of))) named last)))
 
   foreign_found : (of called : Name) (arguments : List Child) → FindsLayer (Expr-F.ForeignCall of called arguments)
   foreign_found of called arguments scope t is =
@@ -254,34 +254,34 @@ module _ (items : List Item) (context : Context) where
       let is_envelope : Bool = is_envelope_call of called && (is_command_block context.block && is_one_envelope told) in
       let is_device : Bool = is_device_call of called && (is_action_block context.block && is_nothing told) in
       only_if_then (is_foreign_call context of called told) (Some ty.Ident) t is (λ foreign same. rw (sym (same_some same)) (either is_envelope is_device foreign
-        (λ both. and_then (is_envelope_call of called) (is_command_block context.block && is_one_envelope told) both (λ names rest.
-          and_then (is_command_block context.block) (is_one_envelope told) rest (λ at one. rules.envelope_call names (command_block_then context.block at) (one_envelope (map tree arguments) one))))
-        (λ both. and_then (is_device_call of called) (is_action_block context.block && is_nothing told) both (λ names rest.
-          and_then (is_action_block context.block) (is_nothing told) rest (λ at nothing.
-            subst (λ es. HasTypeByForm items context scope (Expr-F.ForeignCall of called es) ty.Ident) (sym (no_arguments (map tree arguments) nothing))
-              (rules.device_call names (action_block_then context.block at)))))))
+      (λ both. and_then (is_envelope_call of called) (is_command_block context.block && is_one_envelope told) both (λ names rest.
+      and_then (is_command_block context.block) (is_one_envelope told) rest (λ at one. rules.envelope_call names (command_block_then context.block at) (one_envelope (map tree arguments) one))))
+      (λ both. and_then (is_device_call of called) (is_action_block context.block && is_nothing told) both (λ names rest.
+      and_then (is_action_block context.block) (is_nothing told) rest (λ at nothing.
+      subst (λ es. HasTypeByForm items context scope (Expr-F.ForeignCall of called es) ty.Ident) (sym (no_arguments (map tree arguments) nothing))
+      (rules.device_call names (action_block_then context.block at)))))))
 
   call_found : (called : Name) (arguments : List Child) → FindsLayer (Expr-F.Call called arguments)
   call_found called arguments scope t is =
       bind_then (function_named items called) _ t is (λ function named rest. bind_then (all_types (map find (map tree arguments)) scope) _ t rest (λ types all last.
-        only_if_then (arguments_fit types function.parameters) (Some function.result) t last (λ fit same.
-          rw (sym (same_some same)) (rules.call types function named (all_found arguments scope types all) fit))))
+      only_if_then (arguments_fit types function.parameters) (Some function.result) t last (λ fit same.
+      rw (sym (same_some same)) (rules.call types function named (all_found arguments scope types all) fit))))
 
   fields_found : (name : Name) (binds : List (Bind Child)) → FindsLayer (Expr-F.Struct name binds)
   fields_found name binds scope t is =
       let plain_binds : List (Bind Expr) = map (map_bind tree) binds in
       bind_then (struct_named items name) _ t is (λ declared named rest. bind_then (all_types (map (λ b. b.value) (map (map_bind find) plain_binds)) scope) _ t rest (λ types all last.
-        only_if_then (in_any_order declared (map (λ b. b.name) (map (map_bind find) plain_binds)) types) (Some (ty.Struct name)) t last (λ fit same.
-          rw (sym (same_some same)) (rules.fields types declared named (binds_found binds scope types all)
-            (ap (λ names. in_any_order declared names types) (sym (bind_names find plain_binds)) ∙ fit)))))
+      only_if_then (in_any_order declared (map (λ b. b.name) (map (map_bind find) plain_binds)) types) (Some (ty.Struct name)) t last (λ fit same.
+      rw (sym (same_some same)) (rules.fields types declared named (binds_found binds scope types all)
+      (ap (λ names. in_any_order declared names types) (sym (bind_names find plain_binds)) ∙ fit)))))
 
   choice_found : (x : IfExpr Child) → FindsLayer (Expr-F.If x)
   choice_found x scope t is =
       bind_then (inferred items context x.head.0 scope) _ t is (λ c head rest. bind_then (block_type items context (map_block find (map_block tree x.then)) scope) _ t rest (λ u then more.
-        bind_then (else_type items context (map_else find (record { head = x.head.0; then = map_block tree x.then; otherwise = map_else tree x x.otherwise }) (map_else tree x x.otherwise)) scope) _ t more (λ w other last.
-          only_if_then (is_bool c) (joined u w) t last (λ is_head join.
-            rules.choice u w (x.head.1 scope ty.Bool (head ∙ ap Some (bool_then c is_head))) (block_found x.then scope u then)
-              (else_found (record { head = x.head.0; then = map_block tree x.then; otherwise = map_else tree x x.otherwise }) x x.otherwise scope w other) join))))
+      bind_then (else_type items context (map_else find (record { head = x.head.0; then = map_block tree x.then; otherwise = map_else tree x x.otherwise }) (map_else tree x x.otherwise)) scope) _ t more (λ w other last.
+      only_if_then (is_bool c) (joined u w) t last (λ is_head join.
+      rules.choice u w (x.head.1 scope ty.Bool (head ∙ ap Some (bool_then c is_head))) (block_found x.then scope u then)
+      (else_found (record { head = x.head.0; then = map_block tree x.then; otherwise = map_else tree x x.otherwise }) x x.otherwise scope w other) join))))
 
   finds_layer : (layer : Expr-F Child) → FindsLayer layer
   finds_layer (Expr-F.Or a b) scope t is = or_found a b scope t is
@@ -304,7 +304,7 @@ module _ (items : List Item) (context : Context) where
   finds_layer (Expr-F.Exists p) scope t is = pattern_found p scope ty.Bool t is (λ has same. rw same (rules.exists has))
   finds_layer (Expr-F.Count op n p) scope t is =
       only_if_then (is_positive n) (pattern_of items context (map_pattern find (map_pattern tree p)) scope (count_type op)) t is (λ more rest.
-        pattern_found p scope (count_type op) t rest (λ has same. rw same (rules.counted more has)))
+      pattern_found p scope (count_type op) t rest (λ has same. rw same (rules.counted more has)))
   finds_layer (Expr-F.If x) scope t is = choice_found x scope t is
 
   -- ---- all expressions

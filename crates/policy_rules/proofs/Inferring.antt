@@ -1,7 +1,7 @@
 -- What the rules give an expression as its type is what is inferred of it.
-use Rattle.std.proofs.Common.{◌≡◌, ℕ, Bool, true, false, ◌&&◌, ◌||◌, List, [], ◌∷◌, codes, map, Option, Some, None, refl, sym, ap, ◌∙◌}
+use Rattle.std.proofs.Common.{◌≡◌, Bool, true, false, ◌&&◌, ◌||◌, List, [], codes, map, Option, Some, refl, sym, ap, ◌∙◌}
 use Rattle.policy_ast.specs.declared.expr.ElseExpr.{ElseExpr}
-use Rattle.policy_ast.specs.declared.expr.Expr.{Expr, fold-Expr, fold_out-Expr, fold-roll-Expr, map-Expr}
+use Rattle.policy_ast.specs.declared.expr.Expr.{Expr, fold_out-Expr, fold-roll-Expr, map-Expr}
 use Rattle.policy_ast.specs.declared.expr.Expr.TheOpen.{Expr-F}
 use Rattle.policy_ast.specs.declared.expr.Expr.TheVariants as expr
 use Rattle.policy_ast.specs.declared.expr.ExprBlock.{ExprBlock}
@@ -41,7 +41,7 @@ or_second false b is = is
 device_found : (context : Context) (of called : Name) → is_device_call of called ≡ true → context.block ≡ block.Action → is_foreign_call context of called [] ≡ true
 device_found context of called is at =
     or_second (is_envelope_call of called && (is_command_block context.block && is_one_envelope [])) (is_device_call of called && (is_action_block context.block && is_nothing []))
-      (rw (is, at) refl)
+    (rw (is, at) refl)
 
 module _ (items : List Item) (context : Context) where
   abbrev find : Expr → Found
@@ -94,8 +94,17 @@ module _ (items : List Item) (context : Context) where
 
     pub infers_pattern : {scope : Scope} {p : Pattern Expr} → IsPattern items context scope p → (t : NamedType) → pattern_of items context (map_pattern find p) scope t ≡ Some t
     infers_pattern (rules.pattern_of {p = p} fact keys values is ks vs fit) t =
-        rw (value_part_map find p.values, free_names find p.keys, free_values find p.keys, free_names find (rules.value_part p.values), free_values find (rules.value_part p.values),
-          is, infers_gaps ks, infers_gaps vs, fit) refl
+        rw (
+          value_part_map find p.values,
+          free_names find p.keys,
+          free_values find p.keys,
+          free_names find (rules.value_part p.values),
+          free_values find (rules.value_part p.values),
+          is,
+          infers_gaps ks,
+          infers_gaps vs,
+          fit,
+        ) refl
 
     pub infers_lets : {scope after : Scope} {lets : List (Let Expr)} → Introduce items context scope lets after → introduced items context (map (map_let find) lets) scope ≡ Some after
     infers_lets rules.no_lets = refl

@@ -1,6 +1,6 @@
 -- What a map over one layer of an expression does to the lists, gaps and blocks inside it. The maps of options and of enums do not compute at a variable, so
 -- they are named by way of the layer.
-use Rattle.std.proofs.Common.{◌≡◌, List, [], ◌∷◌, map, Option, Some, None, refl, ap, ◌∙◌}
+use Rattle.std.proofs.Common.{◌≡◌, List, [], ◌∷◌, map, Option, Some, None, refl, ap}
 use Rattle.policy_ast.specs.declared.bind.Bind.{Bind}
 use Rattle.policy_ast.specs.declared.expr.ElseExpr.{ElseExpr}
 use Rattle.policy_ast.specs.declared.expr.ElseExpr.TheVariants as else_expr

@@ -1,5 +1,5 @@
 -- Chains of calls: which names an item calls, and how many calls follow one another.
-use Rattle.std.specs.Prelude.{ℕ, zero, suc, Bool, true, false, ◌&&◌, List, [], ◌∷◌, Option, Some, None, unwrap_or}
+use Rattle.std.specs.Prelude.{ℕ, zero, suc, Bool, true, false, ◌&&◌, List, Option, Some, None, unwrap_or}
 use Rattle.std.specs.List.{list_all}
 use Rattle.policy_ast.specs.declared.bind.Bind.{Bind}
 use Rattle.policy_ast.specs.declared.expr.ElseExpr.{ElseExpr}
@@ -22,21 +22,27 @@ use Rattle.policy_ast.specs.declared.statement.Stmt.TheOpen.{Stmt-F}
 use Rattle.policy_rules.specs.Expressions.{value_part}
 use Rattle.policy_rules.specs.Names.{Name, item_named}
 
+-- Each of these holds.
 abbrev pub all_hold : List Bool → Bool
 all_hold = list_all (λ b. b)
 
+-- Each expression that is bound does.
 abbrev pub binds_hold : List (Bind Bool) → Bool
 binds_hold = list_all (λ b. b.value)
 
+-- Each expression does, where one stands in place of a `?`.
 abbrev pub gaps_hold : List (Free Bool) → Bool
 gaps_hold = list_all (λ f. unwrap_or f.value true)
 
+-- Each expression of a pattern does.
 abbrev pub pattern_holds : Pattern Bool → Bool
 pattern_holds p = gaps_hold p.keys && gaps_hold (value_part p.values)
 
+-- Each `let` of a block does, and its value.
 abbrev pub block_holds : ExprBlock Bool → Bool
 block_holds b = list_all (λ l. l.value) b.lets && b.value
 
+-- What follows `else` does.
 abbrev pub else_holds : ElseExpr Bool → Bool
 else_holds (else_expr.Block b) = block_holds b
 else_holds (else_expr.If e) = e
@@ -68,16 +74,20 @@ module _ (may_call : Name → Bool) where
   abbrev pub expression_calls : Expr → Bool
   expression_calls = fold-Expr Bool expression_calls_layer
 
+  -- The same of expressions that are bound.
   abbrev pub binds_call : List (Bind Expr) → Bool
   binds_call = list_all (λ b. expression_calls b.value)
 
+  -- The same where a `?` may stand.
   abbrev pub gap_calls : Option Expr → Bool
   gap_calls None = true
   gap_calls (Some e) = expression_calls e
 
+  -- The same of a part of a pattern.
   abbrev pub gaps_call : List (Free Expr) → Bool
   gaps_call = list_all (λ f. gap_calls f.value)
 
+  -- The same of a pattern.
   abbrev pub pattern_calls : Pattern Expr → Bool
   pattern_calls p = gaps_call p.keys && gaps_call (value_part p.values)
 
@@ -89,11 +99,13 @@ module _ (may_call : Name → Bool) where
   finish_calls (finish.Emit e) = expression_calls e
   finish_calls (finish.Call called arguments) = may_call called && list_all expression_calls arguments
 
+  -- What follows `else`, if anything, does.
   abbrev pub else_stmt_calls : Option (Else Bool) → Bool
   else_stmt_calls None = true
   else_stmt_calls (Some (else_stmt.Block body)) = all_hold body
   else_stmt_calls (Some (else_stmt.If s)) = s
 
+  -- One layer of a statement, where the statements inside say whether they do.
   abbrev pub statement_calls_layer : Stmt-F Bool → Bool
   statement_calls_layer (Stmt-F.Let l) = expression_calls l.value
   statement_calls_layer (Stmt-F.Check e) = expression_calls e
@@ -108,6 +120,7 @@ module _ (may_call : Name → Bool) where
   abbrev pub statement_calls : Stmt → Bool
   statement_calls = fold-Stmt Bool statement_calls_layer
 
+  -- A section of a command calls only what may be called.
   abbrev pub section_calls : Section → Bool
   section_calls (section.Policy body) = list_all statement_calls body
   section_calls (section.Recall body) = list_all statement_calls body
@@ -132,6 +145,7 @@ abbrev pub chain_within : List Item → ℕ → Name → Bool
 chain_within items zero name = false
 chain_within items (suc n) name = called_calls (chain_within items n) (item_named items name)
 
+-- So many calls may follow one another.
 abbrev pub longest_chain : ℕ
 longest_chain = 16
 

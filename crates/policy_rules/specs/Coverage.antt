@@ -1,5 +1,5 @@
 -- The arms of a `match`: what they take, and that one of them takes each value.
-use Rattle.std.specs.Prelude.{ℤ, pos, negsuc, ℕ, Bool, true, false, not, ◌&&◌, ◌||◌, ◌==◌, List, [], ◌∷◌, ◌++◌, map, Option, Some, None, unwrap_or, option_map}
+use Rattle.std.specs.Prelude.{Bool, true, false, not, ◌&&◌, ◌||◌, List, [], ◌∷◌, ◌++◌, Option, Some, None, unwrap_or}
 use Rattle.std.specs.List.{list_all, list_any}
 use Rattle.std.specs.Option.{is_some}
 use Rattle.std.specs.Ordering.{int_eq}
@@ -11,9 +11,7 @@ use Rattle.policy_ast.specs.declared.pattern.ArmPattern.{ArmPattern}
 use Rattle.policy_ast.specs.declared.pattern.ArmPattern.TheVariants as arm_pattern
 use Rattle.policy_ast.specs.declared.pattern.PatternLiteral.{PatternLiteral}
 use Rattle.policy_ast.specs.declared.pattern.PatternLiteral.TheVariants as pattern
-use Rattle.policy_rules.specs.FieldLists.{fits_some}
 use Rattle.policy_rules.specs.Heads.{enum_named, literal_type}
-use Rattle.policy_rules.specs.Names.{Name}
 use Rattle.policy_rules.specs.Types.{fits}
 use Rattle.policy_rules.specs.declared.types.NamedType.{NamedType, out-NamedType}
 use Rattle.policy_rules.specs.declared.types.NamedType.TheOpen.{NamedType-F}
@@ -28,6 +26,7 @@ may_match_layer items (NamedType-F.Enum name) = is_some (enum_named items name)
 may_match_layer items (NamedType-F.Optional inner) = true
 may_match_layer items other = false
 
+-- A value of the type may be matched.
 abbrev pub may_match : List Item → NamedType → Bool
 may_match items t = may_match_layer items (out-NamedType t)
 
@@ -40,6 +39,7 @@ same_literal literal.False literal.False = true
 same_literal (literal.Variant name variant) (literal.Variant other place) = bytes_eq name other && bytes_eq variant place
 same_literal _ _ = false
 
+-- Two patterns list one value.
 abbrev pub same_pattern : PatternLiteral → PatternLiteral → Bool
 same_pattern (pattern.Literal l) (pattern.Literal other) = same_literal l other
 same_pattern pattern.None pattern.None = true
@@ -60,10 +60,12 @@ abbrev pub listed : ArmPattern → List PatternLiteral
 listed arm_pattern.Any = []
 listed (arm_pattern.Literals literals) = literals
 
+-- The values that all arms list, in order.
 abbrev pub all_listed : List ArmPattern → List PatternLiteral
 all_listed [] = []
 all_listed (p ∷ patterns) = listed p ++ all_listed patterns
 
+-- The pattern is `_`.
 abbrev pub is_any : ArmPattern → Bool
 is_any arm_pattern.Any = true
 is_any other = false
@@ -87,6 +89,7 @@ all_values_layer items (NamedType-F.Enum name) patterns =
     list_all (λ variant. list_any (same_pattern (pattern.Literal (literal.Variant name variant))) patterns) (unwrap_or (enum_named items name) [])
 all_values_layer items other patterns = false
 
+-- All values of the type are listed.
 abbrev pub lists_all_values : List Item → NamedType → List PatternLiteral → Bool
 lists_all_values items t = all_values_layer items (out-NamedType t)
 
@@ -99,4 +102,4 @@ arms_cover items t patterns = any_is_last patterns && (list_any is_any patterns 
 abbrev pub are_arm_patterns : List Item → NamedType → List ArmPattern → Bool
 are_arm_patterns items t patterns =
     may_match items t && list_all (λ p. some_fits (pattern_type items p) t) (all_listed patterns) && are_distinct_patterns (all_listed patterns)
-      && arms_cover items t patterns
+    && arms_cover items t patterns

@@ -1,5 +1,5 @@
 -- The types of expressions: one rule for each form, and the same for the patterns, the blocks and the lists that stand in them.
-use Rattle.std.specs.Prelude.{◌≡◌, ℤ, pos, negsuc, ℕ, Bool, true, false, ◌&&◌, ◌||◌, nat_le, List, [], ◌∷◌, codes, map, unwrap_or, Option, Some, None}
+use Rattle.std.specs.Prelude.{◌≡◌, ℤ, pos, negsuc, Bool, true, false, ◌&&◌, ◌||◌, nat_le, List, [], ◌∷◌, codes, map, unwrap_or, Option, Some, None}
 use Rattle.std.specs.Str.{bytes_eq}
 use Rattle.policy_ast.specs.declared.bind.Bind.{Bind}
 use Rattle.policy_ast.specs.declared.expr.Arithmetic.{Arithmetic}
@@ -17,7 +17,6 @@ use Rattle.policy_ast.specs.declared.expr.ExprBlock.{ExprBlock}
 use Rattle.policy_ast.specs.declared.expr.IfExpr.{IfExpr}
 use Rattle.policy_ast.specs.declared.expr.Let.{Let}
 use Rattle.policy_ast.specs.declared.expr.Presence.{Presence}
-use Rattle.policy_ast.specs.declared.expr.Unary.{Unary}
 use Rattle.policy_ast.specs.declared.expr.Unary.TheVariants as unary
 use Rattle.policy_ast.specs.declared.item.Item.{Item}
 use Rattle.policy_ast.specs.declared.literal.Literal.{Literal}
@@ -28,7 +27,6 @@ use Rattle.policy_rules.specs.Heads.{FactHead, FunctionHead, fact_named, functio
 use Rattle.policy_rules.specs.Names.{Name}
 use Rattle.policy_rules.specs.Scopes.{Scope, may_introduce, name_type, type_in, with_name}
 use Rattle.policy_rules.specs.Types.{joined}
-use Rattle.policy_rules.specs.declared.context.Block.{Block}
 use Rattle.policy_rules.specs.declared.context.Block.TheVariants as block
 use Rattle.policy_rules.specs.declared.context.Context.{Context}
 use Rattle.policy_rules.specs.declared.types.Named.{Named}
@@ -48,10 +46,12 @@ arithmetic_type arithmetic.Sub = ty.Optional ty.Int
 arithmetic_type arithmetic.SaturatingAdd = ty.Int
 arithmetic_type arithmetic.SaturatingSub = ty.Int
 
+-- `count_up_to` gives a number, and the other counts say whether it is met.
 abbrev pub count_type : Count → NamedType
 count_type count.CountUpTo = ty.Int
 count_type other = ty.Bool
 
+-- At least 1.
 abbrev pub is_positive : ℤ → Bool
 is_positive (pos n) = nat_le 1 n
 is_positive (negsuc n) = false
@@ -138,9 +138,11 @@ module _ (items : List Item) (context : Context) where
       more_lets : {scope after : Scope} {l : Let Expr} {more : List (Let Expr)} (t : NamedType) → HasType scope l.value t → may_introduce items context scope l.name ≡ true
           → Introduce (with_name scope l.name t) more after → Introduce scope (l ∷ more) after
 
+    -- A block has the type of its value, in the scope behind its `let`s.
     pub data HasBlockType : Scope → ExprBlock Expr → NamedType → Type 0 where
       block_of : {scope : Scope} {b : ExprBlock Expr} {t : NamedType} (inner : Scope) → Introduce scope b.lets inner → HasType inner b.value t → HasBlockType scope b t
 
+    -- What follows `else` has this type: a block, or an `if` again.
     pub data HasElseType : Scope → ElseExpr Expr → NamedType → Type 0 where
       else_block : {scope : Scope} {b : ExprBlock Expr} {t : NamedType} → HasBlockType scope b t → HasElseType scope (else_expr.Block b) t
       else_if : {scope : Scope} {e : Expr} {t : NamedType} → HasType scope e t → HasElseType scope (else_expr.If e) t

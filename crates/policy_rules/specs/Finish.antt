@@ -1,5 +1,5 @@
 -- The statements of `finish` blocks and finish functions.
-use Rattle.std.specs.Prelude.{◌≡◌, ℕ, Bool, true, false, not, ◌&&◌, ◌==◌, List, [], ◌∷◌, length, map, Option, Some, None, unwrap_or}
+use Rattle.std.specs.Prelude.{◌≡◌, Bool, true, false, ◌&&◌, ◌==◌, List, [], ◌∷◌, length, map, Option, Some, None}
 use Rattle.std.specs.List.{list_all}
 use Rattle.std.specs.Option.{is_some}
 use Rattle.policy_ast.specs.declared.bind.Bind.{Bind}
@@ -31,9 +31,11 @@ is_plain_layer (Expr-F.Some a) = a
 is_plain_layer Expr-F.None = true
 is_plain_layer other = false
 
+-- The expression may stand inside `finish`.
 abbrev pub is_plain : Expr → Bool
 is_plain = fold-Expr Bool is_plain_layer
 
+-- All of these may.
 abbrev pub are_plain : List Expr → Bool
 are_plain = list_all is_plain
 
@@ -46,6 +48,7 @@ abbrev pub is_plain_or_gap : Option Expr → Bool
 is_plain_or_gap None = true
 is_plain_or_gap (Some e) = is_plain e
 
+-- All expressions of a part of a pattern may.
 abbrev pub are_plain_or_gaps : List (Free Expr) → Bool
 are_plain_or_gaps = list_all (λ f. is_plain_or_gap f.value)
 
@@ -64,6 +67,7 @@ module _ (items : List Item) (context : Context) (scope : Scope) where
     values : (types : List NamedType) → HaveTypes items context scope (map (λ b. b.value) binds) types → are_plain (map (λ b. b.value) binds) ≡ true
         → in_any_order fact.values (map (λ b. b.name) binds) types ≡ true → BindValues fact binds
 
+  -- The statement of `finish` is well typed.
   pub data IsFinishStmt : FinishStmt → Type 0 where
     create : {name : Name} {key_binds value_binds : List (Bind Expr)} (fact : FactHead) → fact_named items name ≡ Some fact
         → BindKeys fact key_binds → BindValues fact value_binds → IsFinishStmt (finish.Create name key_binds value_binds)
@@ -75,6 +79,7 @@ module _ (items : List Item) (context : Context) (scope : Scope) where
     call : {name : Name} {arguments : List Expr} (types : List NamedType) (parameters : List Named) → finish_function_named items name ≡ Some parameters
         → HaveTypes items context scope arguments types → are_plain arguments ≡ true → arguments_fit types parameters ≡ true → IsFinishStmt (finish.Call name arguments)
 
+  -- All of these are.
   pub data AreFinishStmts : List FinishStmt → Type 0 where
     no_finish_stmts : AreFinishStmts []
     more_finish_stmts : {s : FinishStmt} {more : List FinishStmt} → IsFinishStmt s → AreFinishStmts more → AreFinishStmts (s ∷ more)

@@ -1,5 +1,5 @@
 -- What the rest of a policy knows of an item: its fields, variants, parameters and result, and what a literal's type is.
-use Rattle.std.specs.Prelude.{ℤ, ℕ, Bool, true, false, if◌then◌else◌, List, [], ◌∷◌, ◌++◌, map, Option, Some, None, option_map, option_and_then}
+use Rattle.std.specs.Prelude.{Bool, true, false, if◌then◌else◌, List, [], ◌∷◌, ◌++◌, map, Option, Some, None, option_map, option_and_then}
 use Rattle.std.specs.Option.{is_some}
 use Rattle.base_bytes.specs.Values.{fits_int, fits_text}
 use Rattle.policy_ast.specs.declared.field.Field.{Field}
@@ -31,6 +31,7 @@ written_fields (item.Fact is_immutable name keys values) = Some (keys ++ values)
 written_fields (item.Command name sections) = Some (command_fields sections)
 written_fields other = None
 
+-- The variants of an enum.
 abbrev pub variants : Item → Option (List Name)
 variants (item.Enum name all) = Some all
 variants other = None
@@ -41,6 +42,7 @@ pub record FactHead : Type 0 where
   pub keys : List Named
   pub values : List Named
 
+-- What is known of a fact.
 abbrev pub fact_head : Item → Option FactHead
 fact_head (item.Fact is_immutable name keys values) = Some (record { is_immutable = is_immutable; keys = declared keys; values = declared values })
 fact_head other = None
@@ -50,36 +52,45 @@ pub record FunctionHead : Type 0 where
   pub parameters : List Named
   pub result : NamedType
 
+-- What is known of a function.
 abbrev pub function_head : Item → Option FunctionHead
 function_head (item.Function name parameters result body) = Some (record { parameters = declared parameters; result = written_type result })
 function_head other = None
 
+-- The parameters of a finish function.
 abbrev pub finish_parameters : Item → Option (List Named)
 finish_parameters (item.FinishFunction name parameters body) = Some (declared parameters)
 finish_parameters other = None
 
+-- The item is a command.
 abbrev pub is_command : Item → Bool
 is_command (item.Command name sections) = true
 is_command other = false
 
+-- The item is an effect.
 abbrev pub is_effect : Item → Bool
 is_effect (item.Effect name fields) = true
 is_effect other = false
 
 -- ---- by name, among the items of a policy
 
+-- The fields of the struct that a name means.
 abbrev pub struct_named : List Item → Name → Option (List Named)
 struct_named items name = option_and_then (λ i. option_map declared (written_fields i)) (item_named items name)
 
+-- The variants of the enum that a name means.
 abbrev pub enum_named : List Item → Name → Option (List Name)
 enum_named items name = option_and_then variants (item_named items name)
 
+-- The fact that a name means.
 abbrev pub fact_named : List Item → Name → Option FactHead
 fact_named items name = option_and_then fact_head (item_named items name)
 
+-- The function that a name means.
 abbrev pub function_named : List Item → Name → Option FunctionHead
 function_named items name = option_and_then function_head (item_named items name)
 
+-- The parameters of the finish function that a name means.
 abbrev pub finish_function_named : List Item → Name → Option (List Named)
 finish_function_named items name = option_and_then finish_parameters (item_named items name)
 
@@ -96,6 +107,7 @@ exists_layer items (FieldType-F.Struct name) = is_some (struct_named items name)
 exists_layer items (FieldType-F.Optional inner) = inner
 exists_layer items other = true
 
+-- Each enum and each struct that a written type names is there.
 abbrev pub type_exists : List Item → FieldType → Bool
 type_exists items = fold-FieldType Bool (exists_layer items)
 

@@ -1,5 +1,5 @@
 -- Well-typed items, kind by kind.
-use Rattle.std.specs.Prelude.{◌≡◌, ℕ, Bool, true, false, not, ◌&&◌, ◌||◌, nat_le, List, [], ◌∷◌, ◌++◌, codes, length, map, Option, Some, None}
+use Rattle.std.specs.Prelude.{◌≡◌, Bool, true, false, not, ◌&&◌, nat_le, List, [], ◌∷◌, codes, length, map, Option, Some, None}
 use Rattle.std.specs.List.{list_all}
 use Rattle.std.specs.Str.{bytes_eq}
 use Rattle.policy_ast.specs.declared.field.EffectField.{EffectField}
@@ -35,6 +35,7 @@ abbrev pub is_free_name : List Name → Option Name → Bool
 is_free_name earlier None = true
 is_free_name earlier (Some name) = not (is_among name earlier) && not (bytes_eq name (codes "Envelope"))
 
+-- The names of fields.
 abbrev pub field_names : List Field → List Name
 field_names fields = map (λ f. f.name) fields
 
@@ -56,6 +57,7 @@ is_key_type_layer (FieldType-F.Struct name) = false
 is_key_type_layer (FieldType-F.Optional inner) = false
 is_key_type_layer other = true
 
+-- The type may be that of a key.
 abbrev pub is_key_type : FieldType → Bool
 is_key_type t = is_key_type_layer (out-FieldType t)
 
@@ -63,8 +65,9 @@ is_key_type t = is_key_type_layer (out-FieldType t)
 abbrev pub are_fact_fields : List Item → List Field → List Field → Bool
 are_fact_fields items keys values =
     are_fields items keys && are_fields items values && list_all (λ f. is_key_type f.field_type) keys
-      && list_all (λ name. not (is_among name (field_names keys))) (field_names values)
+    && list_all (λ name. not (is_among name (field_names keys))) (field_names values)
 
+-- The fields of an effect; the word `dynamic` has no effect.
 abbrev pub effect_fields : List EffectField → List Field
 effect_fields fields = map (λ f. f.field) fields
 
@@ -74,12 +77,15 @@ effect_fields fields = map (λ f. f.field) fields
 abbrev pub in_command : Name → Context
 in_command name = record { block = block.Command; this = Some name; result = None }
 
+-- In the body of a function with this type of its result.
 abbrev pub in_function : NamedType → Context
 in_function result = record { block = block.Function; this = None; result = Some result }
 
+-- In the body of a finish function.
 abbrev pub in_finish_function : Context
 in_finish_function = record { block = block.Finish; this = None; result = None }
 
+-- In the body of an action.
 abbrev pub in_action : Context
 in_action = record { block = block.Action; this = None; result = None }
 
@@ -95,6 +101,7 @@ module _ (items : List Item) where
     policy_section : {body : List Stmt} → IsBlock items (in_command name) [] body → IsSection name (section.Policy body)
     recall_section : {body : List Stmt} → IsBlock items (in_command name) [] body → IsSection name (section.Recall body)
 
+  -- All sections of a command.
   pub data AreSections (name : Name) : List Section → Type 0 where
     no_sections : AreSections name []
     more_sections : {s : Section} {more : List Section} → IsSection name s → AreSections name more → AreSections name (s ∷ more)

@@ -14,5 +14,6 @@ pub mod Calls
 pub mod Commands
 pub mod Items
 pub mod WellTyped
+pub mod ExistingTypes
 pub mod working
 pub mod Laws

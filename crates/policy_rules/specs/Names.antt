@@ -1,10 +1,11 @@
 -- The names of items, and which item a name means.
-use Rattle.std.specs.Prelude.{ℕ, Bool, false, List, find, position, filter_map, map, Option, Some, None, option_map, unwrap_or}
+use Rattle.std.specs.Prelude.{ℕ, Bool, false, List, find, position, filter_map, Option, Some, None, option_map, unwrap_or}
 use Rattle.std.specs.List.{list_any}
 use Rattle.std.specs.Str.{bytes_eq}
 use Rattle.policy_ast.specs.declared.item.Item.{Item}
 use Rattle.policy_ast.specs.declared.item.Item.TheVariants as item
 
+-- A name, as its bytes.
 abbrev pub Name : Type 0
 Name = List ℕ
 

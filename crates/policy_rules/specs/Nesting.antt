@@ -16,9 +16,11 @@ struct_passes_layer test (NamedType-F.Struct name) = test name
 struct_passes_layer test (NamedType-F.Optional inner) = inner
 struct_passes_layer test other = true
 
+-- The same of a whole type.
 abbrev pub struct_passes : (Name → Bool) → NamedType → Bool
 struct_passes test = fold-NamedType Bool (struct_passes_layer test)
 
+-- The fields of a struct pass a test; a name without a struct has none.
 abbrev pub fields_pass : (List Named → Bool) → Option (List Named) → Bool
 fields_pass test None = true
 fields_pass test (Some fields) = test fields
@@ -28,9 +30,11 @@ abbrev pub nests_within : List Item → ℕ → List Named → Bool
 nests_within items zero fields = false
 nests_within items (suc n) fields = list_all (λ f. struct_passes (λ name. fields_pass (nests_within items n) (struct_named items name)) f.ty) fields
 
+-- So many structs may nest, the outermost counted.
 abbrev pub deepest_nesting : ℕ
 deepest_nesting = 8
 
+-- Structs nest in these fields no deeper than they may.
 abbrev pub written_nests : List Item → Option (List Field) → Bool
 written_nests items None = true
 written_nests items (Some fields) = nests_within items deepest_nesting (declared fields)

@@ -1,5 +1,5 @@
 -- The names that stand for values where an expression stands, and which names may be introduced there.
-use Rattle.std.specs.Prelude.{ℕ, Bool, true, false, not, ◌&&◌, if◌then◌else◌, List, [], ◌∷◌, ◌++◌, codes, map, filter_map, Option, Some, None}
+use Rattle.std.specs.Prelude.{Bool, not, ◌&&◌, if◌then◌else◌, List, [], ◌∷◌, ◌++◌, codes, map, filter_map, Option, Some, None}
 use Rattle.std.specs.Option.{is_some, option_or}
 use Rattle.std.specs.Str.{bytes_eq}
 use Rattle.policy_ast.specs.declared.item.Item.{Item}
@@ -19,6 +19,7 @@ abbrev pub type_in : Scope → Name → Option NamedType
 type_in [] name = None
 type_in (n ∷ names) name = if bytes_eq name n.name then Some n.ty else type_in names name
 
+-- The names of a scope.
 abbrev pub names_in : Scope → List Name
 names_in scope = map (λ n. n.name) scope
 
@@ -26,11 +27,12 @@ names_in scope = map (λ n. n.name) scope
 abbrev pub with_name : Scope → Name → NamedType → Scope
 with_name scope name t = scope ++ record { name = name; ty = t } ∷ []
 
--- The names of all `let` items of a policy.
+-- The name of a policy's `let` item.
 abbrev pub let_name : Item → Option Name
 let_name (item.Let name value) = Some name
 let_name other = None
 
+-- The names of all `let` items of a policy.
 abbrev pub let_names : List Item → List Name
 let_names = filter_map let_name
 

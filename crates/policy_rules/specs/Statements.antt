@@ -1,5 +1,5 @@
 -- The statements of policy and recall blocks, functions and actions.
-use Rattle.std.specs.Prelude.{◌≡◌, ℕ, Bool, true, false, not, ◌&&◌, ◌||◌, List, [], ◌∷◌, map, Option, Some, None}
+use Rattle.std.specs.Prelude.{◌≡◌, Bool, true, false, not, ◌&&◌, List, [], ◌∷◌, map, Option, Some, None}
 use Rattle.std.specs.List.{list_all}
 use Rattle.policy_ast.specs.declared.expr.Expr.{Expr}
 use Rattle.policy_ast.specs.declared.expr.Let.{Let}
@@ -19,7 +19,6 @@ use Rattle.policy_rules.specs.Heads.{is_command, names_item}
 use Rattle.policy_rules.specs.Names.{Name}
 use Rattle.policy_rules.specs.Scopes.{Scope, may_introduce, with_name}
 use Rattle.policy_rules.specs.Types.{fits}
-use Rattle.policy_rules.specs.declared.context.Block.{Block}
 use Rattle.policy_rules.specs.declared.context.Block.TheVariants as block
 use Rattle.policy_rules.specs.declared.context.Context.{Context}
 use Rattle.policy_rules.specs.declared.types.NamedType.{NamedType}
@@ -31,6 +30,7 @@ is_last_layer (Stmt-F.Finish statements) = true
 is_last_layer (Stmt-F.Return e) = true
 is_last_layer other = false
 
+-- A statement may stand before these.
 abbrev pub may_precede : Stmt → List Stmt → Bool
 may_precede s [] = true
 may_precede s more = not (is_last_layer (out-Stmt s))
@@ -45,6 +45,7 @@ module _ (items : List Item) (context : Context) where
     pub data IsStmt : Scope → Stmt → Scope → Type 0 where
       stmt : {scope after : Scope} {s : Stmt} → IsStmtByForm scope (out-Stmt s) after → IsStmt scope s after
 
+    -- The rules, form by form.
     pub data IsStmtByForm : Scope → Stmt-F Stmt → Scope → Type 0 where
       introduces : {scope : Scope} {l : Let Expr} (t : NamedType) → HasType items context scope l.value t → may_introduce items context scope l.name ≡ true
           → IsStmtByForm scope (Stmt-F.Let l) (with_name scope l.name t)
@@ -70,11 +71,13 @@ module _ (items : List Item) (context : Context) where
       no_stmts : {scope : Scope} → IsBlock scope []
       more_stmts : {scope : Scope} {s : Stmt} {more : List Stmt} (after : Scope) → IsStmt scope s after → may_precede s more ≡ true → IsBlock after more → IsBlock scope (s ∷ more)
 
+    -- What follows `else`, if anything: a block, or an `if` again.
     pub data IsElse : Scope → Option (Else Stmt) → Type 0 where
       no_else : {scope : Scope} → IsElse scope None
       else_block : {scope : Scope} {body : List Stmt} → IsBlock scope body → IsElse scope (Some (else_stmt.Block body))
       else_if : {scope : Scope} {s : Stmt} (after : Scope) → IsStmt scope s after → IsElse scope (Some (else_stmt.If s))
 
+    -- The bodies of all arms.
     pub data AreArms : Scope → List (Arm Stmt) → Type 0 where
       no_arms : {scope : Scope} → AreArms scope []
       more_arms : {scope : Scope} {a : Arm Stmt} {more : List (Arm Stmt)} → IsBlock scope a.body → AreArms scope more → AreArms scope (a ∷ more)
@@ -87,6 +90,7 @@ last_does [] = false
 last_does (b ∷ []) = b
 last_does (b ∷ more) = last_does more
 
+-- What follows `else` is there, and ends in a return.
 abbrev pub else_returns : Option (Else Bool) → Bool
 else_returns None = false
 else_returns (Some (else_stmt.Block body)) = last_does body
@@ -99,6 +103,7 @@ returns_layer (Stmt-F.If x) = last_does x.then && else_returns x.otherwise
 returns_layer (Stmt-F.Match e arms) = list_all (λ a. last_does a.body) arms
 returns_layer other = false
 
+-- The statement ends in a return, whichever way it goes.
 abbrev pub always_returns : Stmt → Bool
 always_returns = fold-Stmt Bool returns_layer
 

@@ -1,5 +1,5 @@
 -- Well-typed policies, and the place of the fault in those that aren't.
-use Rattle.std.specs.Prelude.{◌≡◌, ℕ, ◌<◌, List, map, take, slice_get, Option, Some}
+use Rattle.std.specs.Prelude.{◌≡◌, ℕ, ◌<◌, List, map, take, slice_get, Some}
 use Rattle.policy_ast.specs.declared.item.Item.{Item}
 use Rattle.policy_ast.specs.declared.policy.PlacedItem.{PlacedItem}
 use Rattle.policy_rules.specs.Items.{IsItem}

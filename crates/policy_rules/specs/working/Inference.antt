@@ -1,7 +1,6 @@
 -- The type of an expression, found from the types of its parts.
-use Rattle.std.specs.Prelude.{ℤ, ℕ, Bool, true, false, ◌&&◌, ◌||◌, List, [], ◌∷◌, codes, map, Option, Some, None, option_map, option_and_then}
+use Rattle.std.specs.Prelude.{Bool, true, false, ◌&&◌, ◌||◌, List, [], ◌∷◌, codes, map, Option, Some, None, option_map, option_and_then}
 use Rattle.std.specs.Str.{bytes_eq}
-use Rattle.policy_ast.specs.declared.bind.Bind.{Bind}
 use Rattle.policy_ast.specs.declared.expr.Arithmetic.{Arithmetic}
 use Rattle.policy_ast.specs.declared.expr.Comparison.{Comparison}
 use Rattle.policy_ast.specs.declared.expr.ElseExpr.{ElseExpr}
@@ -9,7 +8,6 @@ use Rattle.policy_ast.specs.declared.expr.ElseExpr.TheVariants as else_expr
 use Rattle.policy_ast.specs.declared.expr.Expr.{Expr, fold-Expr}
 use Rattle.policy_ast.specs.declared.expr.Expr.TheOpen.{Expr-F}
 use Rattle.policy_ast.specs.declared.expr.ExprBlock.{ExprBlock}
-use Rattle.policy_ast.specs.declared.expr.IfExpr.{IfExpr}
 use Rattle.policy_ast.specs.declared.expr.Let.{Let}
 use Rattle.policy_ast.specs.declared.expr.Unary.{Unary}
 use Rattle.policy_ast.specs.declared.expr.Unary.TheVariants as unary
@@ -18,20 +16,18 @@ use Rattle.policy_ast.specs.declared.pattern.Free.{Free}
 use Rattle.policy_ast.specs.declared.pattern.Pattern.{Pattern}
 use Rattle.policy_rules.specs.Expressions.{arithmetic_type, count_type, is_device_call, is_envelope_call, is_equality, is_positive, value_part}
 use Rattle.policy_rules.specs.FieldLists.{arguments_fit, in_any_order, pattern_fits}
-use Rattle.policy_rules.specs.Heads.{FactHead, FunctionHead, fact_named, function_named, literal_type, struct_named}
+use Rattle.policy_rules.specs.Heads.{fact_named, function_named, literal_type, struct_named}
 use Rattle.policy_rules.specs.Names.{Name}
 use Rattle.policy_rules.specs.Scopes.{Scope, may_introduce, name_type, type_in, with_name}
 use Rattle.policy_rules.specs.Types.{joined}
 use Rattle.policy_rules.specs.declared.context.Block.{Block}
 use Rattle.policy_rules.specs.declared.context.Block.TheVariants as block
 use Rattle.policy_rules.specs.declared.context.Context.{Context}
-use Rattle.policy_rules.specs.declared.types.Named.{Named}
 use Rattle.policy_rules.specs.declared.types.NamedType.{NamedType, out-NamedType}
 use Rattle.policy_rules.specs.declared.types.NamedType.TheOpen.{NamedType-F}
 use Rattle.policy_rules.specs.declared.types.NamedType.TheVariants as ty
 
 infixl 20 ◌>>=◌
-
 abbrev pub ◌>>=◌ : {A B : Type 0} → Option A → (A → Option B) → Option B
 o >>= f = option_and_then f o
 
@@ -130,7 +126,7 @@ is_nothing other = false
 abbrev pub is_foreign_call : Context → Name → Name → List Bool → Bool
 is_foreign_call context of called envelopes =
     (is_envelope_call of called && (is_command_block context.block && is_one_envelope envelopes))
-      || (is_device_call of called && (is_action_block context.block && is_nothing envelopes))
+    || (is_device_call of called && (is_action_block context.block && is_nothing envelopes))
 
 -- where a pattern is one of its fact's rows, this type
 abbrev pub with_pattern : List Item → Name → List Name → Option (List (Option NamedType)) → List Name → Option (List (Option NamedType)) → NamedType → Option NamedType
@@ -168,7 +164,7 @@ module _ (items : List Item) (context : Context) where
   abbrev pub pattern_of : Pattern Found → Scope → NamedType → Option NamedType
   pattern_of p scope t =
       with_pattern items p.fact (map (λ f. f.name) p.keys) (gap_types (map (λ f. f.value) p.keys) scope)
-        (map (λ f. f.name) (value_part p.values)) (gap_types (map (λ f. f.value) (value_part p.values)) scope) t
+      (map (λ f. f.name) (value_part p.values)) (gap_types (map (λ f. f.value) (value_part p.values)) scope) t
 
   abbrev pub type_layer : Expr-F Found → Scope → Option NamedType
   type_layer (Expr-F.Or a b) scope = logic_of (a.type_within scope) (b.type_within scope)
@@ -204,3 +200,23 @@ module _ (items : List Item) (context : Context) where
   -- the type of an expression in a scope, where it has one
   abbrev pub inferred : Expr → Scope → Option NamedType
   inferred e scope = (found e).type_within scope
+
+  -- ---- parts of statements, by what is found of each expression
+
+  abbrev pub found_gap : Option Expr → Option Found
+  found_gap None = None
+  found_gap (Some e) = Some (found e)
+
+  abbrev pub found_free : Free Expr → Free Found
+  found_free f = record { name = f.name; value = found_gap f.value }
+
+  abbrev pub found_values : Option (List (Free Expr)) → Option (List (Free Found))
+  found_values None = None
+  found_values (Some fields) = Some (map found_free fields)
+
+  abbrev pub found_pattern : Pattern Expr → Pattern Found
+  found_pattern p = record { fact = p.fact; keys = map found_free p.keys; values = found_values p.values }
+
+  -- the types of a list of expressions, where each has one
+  abbrev pub types_within : List Expr → Scope → Option (List NamedType)
+  types_within es scope = all_types (map found es) scope
