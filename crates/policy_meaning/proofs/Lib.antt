@@ -5,5 +5,6 @@ pub mod PayloadFacts
 pub mod Positions
 pub mod TypedFacts
 pub mod CallFacts
+pub mod DeclaredFacts
 pub mod EvaluationRows
 pub mod ValueRows

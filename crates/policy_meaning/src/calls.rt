@@ -1,10 +1,12 @@
 //! The call that a command of the graph is.
 
-ghost use Rattle.std.specs.Prelude.{◌≡◌, ◌<◌, ◌^◌, length, IfOk, IsTrue, option_and_then};
+ghost use Rattle.std.specs.Prelude.{◌≡◌, ◌<◌, ◌^◌, length, map, IfOk, IfSome, IsTrue, option_and_then};
 ghost use Rattle.base_bytes.specs.Reaching.{NoneReachesItself};
+ghost use Rattle.base_bytes.specs.Values.{are_fields, has_type, shape_at};
 ghost use Rattle.base_bytes.specs.declared.ty.Ty.TheVariants as ty;
 ghost use Rattle.command.specs.Wire.{IsInForm};
 ghost use Rattle.policy_meaning.specs.Commands.{call_by, call_of, command_number, fields_of, payload_fields, read_value};
+ghost use Rattle.policy_meaning.specs.Typed.{IsCommandOf, holds_at, is_command_of};
 ghost use Rattle.policy_rules.specs.Shapes.{shapes_of};
 ghost use Rattle.policy_rules.specs.WellTyped.{items_of};
 
@@ -17,7 +19,7 @@ use std::alloc::Global;
 
 /// The call that a command is by a policy of these shapes. It is None exactly where the policy declares no command of its name, or where its payload is
 /// no value of the fields; a merge is none.
-#[tactic(auto, unfolding(crate::specs::Commands::call_of))]
+#[tactic(auto, unfolding(crate::specs::Commands::call_of, crate::specs::Typed::IsCommandOf))]
 pub fn call_of(
     alloc: Global,
     policy: &Policy,
@@ -27,7 +29,8 @@ pub fn call_of(
     requires shapes { shapes.now ≡ shapes_of (items_of policy.now) }
     requires finite { NoneReachesItself shapes.now }
     requires formed { IsInForm command.now }
-    ensures { IfOk result (λ call. call ≡ call_of policy.now command.now) }
+    ensures call { IfOk result (λ call. call ≡ call_of policy.now command.now) }
+    ensures declared { IfOk result (λ o. IfSome o (λ call. IsCommandOf policy.now call.command call.fields)) }
 {
     match command {
         Command::Init {
@@ -64,7 +67,8 @@ fn call_by(
     requires few { length items.now < 2 ^ 32 }
     requires shapes { shapes.now ≡ shapes_of (items_of items.now) }
     requires finite { NoneReachesItself shapes.now }
-    ensures { IfOk result (λ call. call ≡ call_by (items_of items.now) id record { name = name.now; payload = payload.now; author = author }) }
+    ensures call { IfOk result (λ call. call ≡ call_by (items_of items.now) id record { name = name.now; payload = payload.now; author = author }) }
+    ensures declared { IfOk result (λ o. IfSome o (λ call. IsTrue (holds_at (items_of items.now) call.command (is_command_of (items_of items.now) call.fields)))) }
 {
     match command_number(items, name.as_slice()) {
         Some(command) => match payload_fields(alloc, shapes, command, payload.as_slice())? {
@@ -101,7 +105,8 @@ fn payload_fields(
     payload: &[u8],
 ) -> Result<Option<Values>, NoMemory>
     requires { NoneReachesItself shapes.now }
-    ensures { IfOk result (λ fields. fields ≡ option_and_then fields_of (read_value shapes.now (ty.Struct number) payload.now)) }
+    ensures fields { IfOk result (λ fields. fields ≡ option_and_then fields_of (read_value shapes.now (ty.Struct number) payload.now)) }
+    ensures typed { IfOk result (λ o. IfSome o (λ fields. IsTrue (are_fields (map (has_type shapes.now) fields) (shape_at shapes.now number)))) }
 {
     match read_value(alloc, shapes, &Ty::Struct(number), payload)? {
         Some(value) => Ok(fields_of(value)),
@@ -125,7 +130,8 @@ fn read_value(
     bytes: &[u8],
 ) -> Result<Option<Value>, NoMemory>
     requires { NoneReachesItself shapes.now }
-    ensures { IfOk result (λ found. found ≡ read_value shapes.now t.now bytes.now) }
+    ensures value { IfOk result (λ found. found ≡ read_value shapes.now t.now bytes.now) }
+    ensures typed { IfOk result (λ o. IfSome o (λ value. IsTrue (has_type shapes.now value t.now))) }
 {
     decode_value(alloc, shapes, t, bytes)
 }

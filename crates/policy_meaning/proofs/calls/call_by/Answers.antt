@@ -1,24 +1,32 @@
-use Rattle.std.proofs.Common.{Some, None, option_and_then, ap, sym, ◌∙◌}
+use Rattle.std.proofs.Common.{Some, None, subst, option_and_then, ap, sym, ◌∙◌}
 use Rattle.base_bytes.specs.declared.ty.Ty.TheVariants as ty
 use Rattle.policy_meaning.specs.Commands.{Content, command_number, fields_of, read_value}
 use Rattle.policy_meaning.proofs.CallFacts.{call_found}
+use Rattle.policy_meaning.proofs.DeclaredFacts.{AreFields, command_is_declared}
 use Rattle.policy_rules.specs.WellTyped.{items_of}
 use Rattle.policy_meaning.proofs.calls.call_by.Goals as goal
 
-pub returns-in-Some-2 : goal.returns-in-Some-2
-returns-in-Some-2 c =
+pub returns-in-Some-2-clause-call : goal.returns-in-Some-2-clause-call
+returns-in-Some-2-clause-call c =
     let items = items_of c.args.items.now in
     let content : Content = record { name = c.args.name.now; payload = c.args.payload.now; author = c.args.author } in
     call_found items c.args.shapes.now c.requires.shapes c.args.id content c.in-Some.command
       (ap (command_number items) (sym c.as_slice.ensures.bytes) ∙ sym c.command_number.ensures ∙ c.in-Some.is) (Some c.in-Some-2.fields)
-      (sym c.in-Some-2.is ∙ c.in_ok-fields-in-Some.ensures
+      (sym c.in-Some-2.is ∙ c.in_ok-fields-in-Some.ensures.fields
         ∙ ap (λ payload. option_and_then fields_of (read_value c.args.shapes.now (ty.Struct c.in-Some.command) payload)) c.as_slice-in-Some.ensures)
 
-pub returns-in-None-2 : goal.returns-in-None-2
-returns-in-None-2 c =
+pub returns-in-None-2-clause-call : goal.returns-in-None-2-clause-call
+returns-in-None-2-clause-call c =
     let items = items_of c.args.items.now in
     let content : Content = record { name = c.args.name.now; payload = c.args.payload.now; author = c.args.author } in
     call_found items c.args.shapes.now c.requires.shapes c.args.id content c.in-Some.command
       (ap (command_number items) (sym c.as_slice.ensures.bytes) ∙ sym c.command_number.ensures ∙ c.in-Some.is) None
-      (sym c.in-None-2.is ∙ c.in_ok-fields-in-Some.ensures
+      (sym c.in-None-2.is ∙ c.in_ok-fields-in-Some.ensures.fields
         ∙ ap (λ payload. option_and_then fields_of (read_value c.args.shapes.now (ty.Struct c.in-Some.command) payload)) c.as_slice-in-Some.ensures)
+
+pub returns-in-Some-2-clause-declared : goal.returns-in-Some-2-clause-declared
+returns-in-Some-2-clause-declared c =
+    let items = items_of c.args.items.now in
+    command_is_declared items c.in-Some.command c.in-Some-2.fields c.args.name.now
+      (ap (command_number items) (sym c.as_slice.ensures.bytes) ∙ sym c.command_number.ensures ∙ c.in-Some.is)
+      (subst (λ s. AreFields s c.in-Some.command c.in-Some-2.fields) c.requires.shapes (rw c.in-Some-2.is at c.in_ok-fields-in-Some.ensures.typed))
