@@ -16,4 +16,4 @@ module _ (items : List Item) (shapes : Shapes) (same : shapes ≡ shapes_of item
       → found ≡ option_and_then fields_of (read_value shapes (ty.Struct number) content.payload) → option_map (call_with number) found ≡ call_by items id content
   call_found number is found told =
       ap (option_map (call_with number)) (told ∙ ap (λ s. option_and_then fields_of (read_value s (ty.Struct number) content.payload)) same)
-        ∙ sym (ap (option_and_then (λ n. option_map (call_with n) (payload_fields items n content.payload))) is)
+      ∙ sym (ap (option_and_then (λ n. option_map (call_with n) (payload_fields items n content.payload))) is)

@@ -1,6 +1,6 @@
 -- The fields that are read of a payload are those that the command declares.
-use Rattle.std.proofs.Common.{◌≡◌, ◌==◌, ◌&&◌, ℕ, zero, suc, Bool, true, false, cond, IsTrue, List, [], ◌∷◌, map, length, Option, Some, None, option_map, option_and_then, slice_get, refl, ap, sym, subst, ◌∙◌}
-use Rattle.std.specs.Prelude.{IfOk, IfSome, Result, Ok, Err, unwrap_or, nat_lt, position, find}
+use Rattle.std.proofs.Common.{◌≡◌, ◌==◌, ◌&&◌, ℕ, zero, suc, Bool, true, false, cond, List, [], ◌∷◌, map, length, Option, Some, None, option_map, option_and_then, slice_get, refl, ap, sym, subst, ◌∙◌}
+use Rattle.std.specs.Prelude.{IfOk, IfSome, Result, Ok, Err, unwrap_or, nat_lt}
 use Rattle.std.specs.List.{position_or_len}
 use Rattle.std.specs.Option.{is_some}
 use Rattle.std.proofs.lemmas.Bool.{eqb-true, false≢true}
@@ -40,9 +40,9 @@ module _ (shapes : Shapes) (n : ℕ) where
   pub typed_fields : (v : Value) → has_type shapes v (ty.Struct n) ≡ true → IfSome (fields_of v) AreFields
   typed_fields v is =
       by_layer (out-Value v)
-        (sym (ap (λ test. test (ty.Struct n)) (fold_out-Value (Ty → Bool) (λ layer t. has_layer shapes layer (out-Ty t)) v)
-            ∙ ap (has_layer shapes (map-Value Value (Ty → Bool) (has_type shapes) (out-Value v))) (ty.outs-Struct n))
-          ∙ is)
+      (sym (ap (λ test. test (ty.Struct n)) (fold_out-Value (Ty → Bool) (λ layer t. has_layer shapes layer (out-Ty t)) v)
+      ∙ ap (has_layer shapes (map-Value Value (Ty → Bool) (has_type shapes) (out-Value v))) (ty.outs-Struct n))
+      ∙ is)
 
 -- what a decoder finds is of the type
 pub decoded_typed : (shapes : Shapes) (t : Ty) (bytes : List ℕ) (answer : Result (Option Value) NoMemory) → IfOk answer (λ o. IfSome o (λ v. IsPayload shapes t v bytes))
@@ -77,7 +77,7 @@ module _ (items : List Item) (n : ℕ) (fields : List Value) where
       → holds_at items n (is_command_of items fields) ≡ true
   by_test name true is number typed =
       by_item (slice_get items n) (sym (ap (λ o. is_some (option_and_then (λ i. cond (is_command i) (Some i) None) o)) (named_at items name n number)) ∙ is)
-        (sym (ap (λ o. are_fields (map (has_type (shapes_of items)) fields) (unwrap_or o shape.Neither)) (slice_map (shape_of items) items n)) ∙ typed)
+      (sym (ap (λ o. are_fields (map (has_type (shapes_of items)) fields) (unwrap_or o shape.Neither)) (slice_map (shape_of items) items n)) ∙ typed)
   by_test name false is number typed = absurd (cc)
 
   -- the command of a name has the fields of its type

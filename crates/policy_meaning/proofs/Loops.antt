@@ -7,6 +7,6 @@ module _ {A B : Type 0} (made : List A → List B) (one : A → B) (step : (x : 
       → front ++ made (drop i all) ≡ total → (front ++ y ∷ []) ++ made (drop (i + 1) all) ≡ total
   made_more front all i x y total lt is gives so_far =
       append_assoc front (y ∷ []) (made (drop (i + 1) all))
-        ∙ ap (λ z. front ++ z ∷ made (drop (i + 1) all)) (gives ∙ ap one is)
-        ∙ ap (λ rest. front ++ rest) (sym (step (get_or all i x) (drop (i + 1) all)) ∙ sym (at_drop_more made all i x lt))
-        ∙ so_far
+      ∙ ap (λ z. front ++ z ∷ made (drop (i + 1) all)) (gives ∙ ap one is)
+      ∙ ap (λ rest. front ++ rest) (sym (step (get_or all i x) (drop (i + 1) all)) ∙ sym (at_drop_more made all i x lt))
+      ∙ so_far

@@ -51,4 +51,4 @@ pub fields_read : (items : List Item) → NoneReachesItself (shapes_of items) �
     → IsPayload (shapes_of items) (ty.Struct number) (value.Struct number fields) payload → payload_fields items number payload ≡ Some fields
 fields_read items no_loop number fields payload is =
     ap (option_and_then fields_of) (payload_read (shapes_of items) no_loop (ty.Struct number) payload (value.Struct number fields) is)
-      ∙ ap (λ layer. option_map (λ parts. parts.1) (struct_layer layer)) (value.outs-Struct number fields)
+    ∙ ap (λ layer. option_map (λ parts. parts.1) (struct_layer layer)) (value.outs-Struct number fields)

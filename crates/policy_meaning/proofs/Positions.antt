@@ -1,5 +1,5 @@
 -- Places in a list of items and in the list with their lines are the same.
-use Rattle.std.proofs.Common.{◌≡◌, ℕ, suc, Bool, true, false, cond, List, [], ◌∷◌, map, length, Option, refl, ap, ◌∙◌}
+use Rattle.std.proofs.Common.{◌≡◌, suc, Bool, List, [], ◌∷◌, map, length, refl, ap}
 use Rattle.std.specs.Prelude.{position}
 use Rattle.std.specs.List.{position_or_len}
 

@@ -38,19 +38,43 @@ pub fn call_of(
             name,
             payload,
             ..
-        } => call_by(alloc, policy.items(), shapes, id_of(command), name, payload, *author),
+        } => call_by(
+            alloc,
+            policy.items(),
+            shapes,
+            id_of(command),
+            name,
+            payload,
+            *author,
+        ),
         Command::Basic {
             author,
             name,
             payload,
             ..
-        } => call_by(alloc, policy.items(), shapes, id_of(command), name, payload, *author),
+        } => call_by(
+            alloc,
+            policy.items(),
+            shapes,
+            id_of(command),
+            name,
+            payload,
+            *author,
+        ),
         Command::Finalize {
             author,
             name,
             payload,
             ..
-        } => call_by(alloc, policy.items(), shapes, id_of(command), name, payload, *author),
+        } => call_by(
+            alloc,
+            policy.items(),
+            shapes,
+            id_of(command),
+            name,
+            payload,
+            *author,
+        ),
         Command::Merge { .. } => Ok(None),
     }
 }

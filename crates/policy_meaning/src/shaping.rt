@@ -47,7 +47,12 @@ fn item_shape(alloc: Global, items: &[PlacedItem], item: &Item) -> Result<Shape,
             push_types(alloc, items, values.as_slice(), &mut types)?;
         }
         Item::Command(_, sections) => {
-            push_types(alloc, items, command_fields(sections.as_slice()), &mut types)?;
+            push_types(
+                alloc,
+                items,
+                command_fields(sections.as_slice()),
+                &mut types,
+            )?;
         }
         _ => return Ok(Shape::Neither),
     }
@@ -67,7 +72,12 @@ pub fn command_fields(sections: &[Section]) -> &[Field]
 }
 
 /// Adds the types of the fields, in their order.
-fn push_types(alloc: Global, items: &[PlacedItem], fields: &[Field], types: &mut Items<Ty>) -> Result<(), NoMemory>
+fn push_types(
+    alloc: Global,
+    items: &[PlacedItem],
+    fields: &[Field],
+    types: &mut Items<Ty>,
+) -> Result<(), NoMemory>
     requires { length items.now < 2 ^ 32 }
     ensures { OnOk result (types.new ≡ types.old ++ field_value_types (items_of items.now) fields.now) }
 {
@@ -77,7 +87,12 @@ fn push_types(alloc: Global, items: &[PlacedItem], fields: &[Field], types: &mut
     Ok(())
 }
 
-fn push_effect_types(alloc: Global, items: &[PlacedItem], fields: &[EffectField], types: &mut Items<Ty>) -> Result<(), NoMemory>
+fn push_effect_types(
+    alloc: Global,
+    items: &[PlacedItem],
+    fields: &[EffectField],
+    types: &mut Items<Ty>,
+) -> Result<(), NoMemory>
     requires { length items.now < 2 ^ 32 }
     ensures { OnOk result (types.new ≡ types.old ++ field_value_types (items_of items.now) (map (λ f. f.field) fields.now)) }
 {
@@ -127,10 +142,11 @@ fn struct_type(items: &[PlacedItem], name: &Name) -> Ty
 {
     let name = name.as_str().as_bytes();
     match item_named(items, name) {
-        Some(Item::Struct(_, _) | Item::Effect(_, _) | Item::Fact { .. } | Item::Command(_, _)) => match number_named(items, name) {
-            Some(number) => Ty::Struct(number as u32),
-            None => Ty::Never,
-        },
+        Some(Item::Struct(_, _) | Item::Effect(_, _) | Item::Fact { .. } | Item::Command(_, _)) =>
+            match number_named(items, name) {
+                Some(number) => Ty::Struct(number as u32),
+                None => Ty::Never,
+            },
         _ => Ty::Never,
     }
 }

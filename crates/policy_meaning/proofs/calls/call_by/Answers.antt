@@ -11,22 +11,22 @@ returns-in-Some-2-clause-call c =
     let items = items_of c.args.items.now in
     let content : Content = record { name = c.args.name.now; payload = c.args.payload.now; author = c.args.author } in
     call_found items c.args.shapes.now c.requires.shapes c.args.id content c.in-Some.command
-      (ap (command_number items) (sym c.as_slice.ensures.bytes) ∙ sym c.command_number.ensures ∙ c.in-Some.is) (Some c.in-Some-2.fields)
-      (sym c.in-Some-2.is ∙ c.in_ok-fields-in-Some.ensures.fields
-        ∙ ap (λ payload. option_and_then fields_of (read_value c.args.shapes.now (ty.Struct c.in-Some.command) payload)) c.as_slice-in-Some.ensures)
+    (ap (command_number items) (sym c.as_slice.ensures.bytes) ∙ sym c.command_number.ensures ∙ c.in-Some.is) (Some c.in-Some-2.fields)
+    (sym c.in-Some-2.is ∙ c.in_ok-fields-in-Some.ensures.fields
+    ∙ ap (λ payload. option_and_then fields_of (read_value c.args.shapes.now (ty.Struct c.in-Some.command) payload)) c.as_slice-in-Some.ensures)
 
 pub returns-in-None-2-clause-call : goal.returns-in-None-2-clause-call
 returns-in-None-2-clause-call c =
     let items = items_of c.args.items.now in
     let content : Content = record { name = c.args.name.now; payload = c.args.payload.now; author = c.args.author } in
     call_found items c.args.shapes.now c.requires.shapes c.args.id content c.in-Some.command
-      (ap (command_number items) (sym c.as_slice.ensures.bytes) ∙ sym c.command_number.ensures ∙ c.in-Some.is) None
-      (sym c.in-None-2.is ∙ c.in_ok-fields-in-Some.ensures.fields
-        ∙ ap (λ payload. option_and_then fields_of (read_value c.args.shapes.now (ty.Struct c.in-Some.command) payload)) c.as_slice-in-Some.ensures)
+    (ap (command_number items) (sym c.as_slice.ensures.bytes) ∙ sym c.command_number.ensures ∙ c.in-Some.is) None
+    (sym c.in-None-2.is ∙ c.in_ok-fields-in-Some.ensures.fields
+    ∙ ap (λ payload. option_and_then fields_of (read_value c.args.shapes.now (ty.Struct c.in-Some.command) payload)) c.as_slice-in-Some.ensures)
 
 pub returns-in-Some-2-clause-declared : goal.returns-in-Some-2-clause-declared
 returns-in-Some-2-clause-declared c =
     let items = items_of c.args.items.now in
     command_is_declared items c.in-Some.command c.in-Some-2.fields c.args.name.now
-      (ap (command_number items) (sym c.as_slice.ensures.bytes) ∙ sym c.command_number.ensures ∙ c.in-Some.is)
-      (subst (λ s. AreFields s c.in-Some.command c.in-Some-2.fields) c.requires.shapes (rw c.in-Some-2.is at c.in_ok-fields-in-Some.ensures.typed))
+    (ap (command_number items) (sym c.as_slice.ensures.bytes) ∙ sym c.command_number.ensures ∙ c.in-Some.is)
+    (subst (λ s. AreFields s c.in-Some.command c.in-Some-2.fields) c.requires.shapes (rw c.in-Some-2.is at c.in_ok-fields-in-Some.ensures.typed))

@@ -27,15 +27,15 @@ returns-in-Ident t c = sym (typed_by_form (items_of c.args.items.now) c.args.t.n
 pub returns-in-Enum : goal.returns-in-Enum
 returns-in-Enum t c =
     c.enum_type.ensures
-      ∙ sym (typed_by_form (items_of c.args.items.now) c.args.t.now (FieldType-F.Enum c.in-Enum.name) (ap out-FieldType c.in-Enum.is ∙ field_type.outs-Enum c.in-Enum.name))
+    ∙ sym (typed_by_form (items_of c.args.items.now) c.args.t.now (FieldType-F.Enum c.in-Enum.name) (ap out-FieldType c.in-Enum.is ∙ field_type.outs-Enum c.in-Enum.name))
 
 pub returns-in-Struct : goal.returns-in-Struct
 returns-in-Struct t c =
     c.struct_type.ensures
-      ∙ sym (typed_by_form (items_of c.args.items.now) c.args.t.now (FieldType-F.Struct c.in-Struct.name) (ap out-FieldType c.in-Struct.is ∙ field_type.outs-Struct c.in-Struct.name))
+    ∙ sym (typed_by_form (items_of c.args.items.now) c.args.t.now (FieldType-F.Struct c.in-Struct.name) (ap out-FieldType c.in-Struct.is ∙ field_type.outs-Struct c.in-Struct.name))
 
 pub returns-in_ok-new-in-Optional : goal.returns-in_ok-new-in-Optional
 returns-in_ok-new-in-Optional t c =
     ap value_type.Optional
-      (c.in_ok-new-in-Optional.ensures ∙ c.in_ok-inner-in-Optional.ensures ∙ ap (λ inner. value_type_of (items_of c.args.items.now) (written_type inner)) c.get.ensures)
-      ∙ sym (typed_by_form (items_of c.args.items.now) c.args.t.now (FieldType-F.Optional c.in-Optional.inner) (ap out-FieldType c.in-Optional.is ∙ field_type.outs-Optional c.in-Optional.inner))
+    (c.in_ok-new-in-Optional.ensures ∙ c.in_ok-inner-in-Optional.ensures ∙ ap (λ inner. value_type_of (items_of c.args.items.now) (written_type inner)) c.get.ensures)
+    ∙ sym (typed_by_form (items_of c.args.items.now) c.args.t.now (FieldType-F.Optional c.in-Optional.inner) (ap out-FieldType c.in-Optional.is ∙ field_type.outs-Optional c.in-Optional.inner))

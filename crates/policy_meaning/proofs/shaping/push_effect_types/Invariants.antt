@@ -6,4 +6,4 @@ use Rattle.policy_meaning.proofs.shaping.push_effect_types.Given as goal
 abbrev pub invariant-loop-field : goal.invariant-loop-field
 invariant-loop-field l =
     l.types ++ field_value_types (items_of l.items) (map (λ f. f.field) (drop l.field-index l.fields))
-      ≡ l.initial.types ++ field_value_types (items_of l.items) (map (λ f. f.field) l.fields)
+    ≡ l.initial.types ++ field_value_types (items_of l.items) (map (λ f. f.field) l.fields)
