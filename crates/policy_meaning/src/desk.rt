@@ -9,7 +9,7 @@ use std::alloc::Global;
 use std::sync::ledger::Ledger;
 
 /// What takes the commands that an action publishes. What it does is a relation of its own, which tells the answer, the facts behind it and the ticks.
-pub trait Desk<F: FactBase> {
+pub trait Desk<F: FactBase>: Drop {
     ghost use Rattle.std.specs.Prelude.{List};
     ghost use Rattle.fact_store.specs.declared.row.Row.{Row};
     ghost use Rattle.policy_ast.specs.declared.policy.PlacedItem.{PlacedItem};

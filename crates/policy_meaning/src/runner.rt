@@ -12,7 +12,7 @@ use std::alloc::Global;
 use std::sync::ledger::Ledger;
 
 /// What runs the blocks of a well-typed policy. Whatever the way in which it does, each call answers what the blocks mean.
-pub trait Runner {
+pub trait Runner: Drop {
     ghost use Rattle.std.specs.Prelude.{List};
     ghost use Rattle.policy_ast.specs.declared.policy.PlacedItem.{PlacedItem};
 
