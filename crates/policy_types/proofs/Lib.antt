@@ -5,3 +5,6 @@ pub mod Fields
 pub mod Standing
 pub mod Values
 pub mod Rows
+pub mod Giving
+pub mod Layouts
+pub mod Expressions

@@ -164,7 +164,7 @@ module _ (items : List Item) where
       let n = number_of shapes b (as_int b is_too) in
       (calculated op m.0 n.0, rw (m.1, n.1) refl, calculated_is op m.0 n.0)
 
-  counted_is : (op : Count) (limit rows : ℕ) → limit < 2 ^ 63 → IsOf items (count_type op) (counted op limit rows)
+  pub counted_is : (op : Count) (limit rows : ℕ) → limit < 2 ^ 63 → IsOf items (count_type op) (counted op limit rows)
   counted_is count.AtLeast limit rows small = is_bool _
   counted_is count.AtMost limit rows small = is_bool _
   counted_is count.Exactly limit rows small = is_bool _
