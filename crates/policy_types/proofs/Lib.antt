@@ -8,3 +8,5 @@ pub mod Rows
 pub mod Giving
 pub mod Layouts
 pub mod Expressions
+pub mod Coverage
+pub mod Statements

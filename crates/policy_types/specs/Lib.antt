@@ -2,3 +2,4 @@
 pub mod Fitting
 pub mod Endings
 pub mod Asked
+pub mod Listed
