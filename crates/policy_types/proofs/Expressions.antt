@@ -48,7 +48,7 @@ use Rattle.policy_types.proofs.Fields.{arguments_are, fits_with, in_any_order_gi
 use Rattle.policy_types.proofs.Fitting.{joined_first, joined_second}
 use Rattle.policy_types.proofs.Giving.{branch_gives, gives_then, there_gives}
 use Rattle.policy_types.proofs.Layers.{id_made, truth_of}
-use Rattle.policy_types.proofs.Layouts.{all_calls, binds_calls, gaps_bound, gaps_calls, gaps_in, gaps_of}
+use Rattle.policy_types.proofs.Layouts.{binds_calls, gaps_bound, gaps_calls, gaps_in, gaps_of, hold_all}
 use Rattle.policy_types.proofs.Rows.{AreRows, GapsAre, first_is, pattern_asks}
 use Rattle.policy_types.proofs.Standing.{FactStands, StructStands, fact_standing, field_of_struct, id_type, struct_distinct, struct_standing, struct_value_made}
 use Rattle.policy_types.proofs.Values.{Has, as_bool, calculation, counted_is, equality, has_gives, is_bool, is_nothing, is_something, literal_has, name_has, negation, order, presence, unwrapping}
@@ -150,7 +150,7 @@ module _ (items : List Item) where
       pattern_fact (rules.pattern_of fact keys values is ks vs fit) = (fact, is)
 
       -- a pattern by the lists of its expressions
-      abbrev wanted_of_pattern : Pattern Expr → Env → ℕ → Out Wanted
+      abbrev pub wanted_of_pattern : Pattern Expr → Env → ℕ → Out Wanted
       wanted_of_pattern p env turns =
           wanted_by items p.fact (map (option_map m) (map (λ f. f.value) p.keys)) (value_names p) (map (option_map m) (map (λ f. f.value) (value_part p.values))) env turns
 
@@ -206,7 +206,7 @@ module _ (items : List Item) where
             has_gives items ty.Ident (foreign_value setting of' called) (device_has context setting suits at of' called is) turns
         gives_layer (rules.call {called = called} {arguments = arguments} types function is all fit_all) may_call env fit turns =
             and_then (may a_function called) (all_hold (map calls arguments)) may_call (λ this_one others.
-            gives_then (AreOf items types) (of function.result) (all_in_order (map m arguments) env turns) _ (gives_all all (sym (all_calls may arguments) ∙ others) env fit turns) (λ vs n are.
+            gives_then (AreOf items types) (of function.result) (all_in_order (map m arguments) env turns) _ (gives_all all (sym (hold_all calls arguments) ∙ others) env fit turns) (λ vs n are.
             keeps called function vs n this_one is (arguments_are items types function.parameters vs fit_all are)))
         gives_layer (rules.fields {struct_name = struct_name} {binds = binds} types fields is all fit_all) may_call env fit turns =
             rw (bind_names m binds, bind_values m binds)
@@ -230,7 +230,7 @@ module _ (items : List Item) where
             (weakened t w (block_meaning (map_block m x.then) env n) (joined_first items t u w join) (gives_block then body env fit n))
             (weakened u w (else_meaning (map_else m x x.otherwise) env n) (joined_second items t u w join) (gives_else otherwise x last env fit n)))))
 
-        gives_all : {scope : Scope} {es : List Expr} {types : List NamedType} → HaveTypes items context scope es types → list_all calls es ≡ true → (env : Env) → Fits items scope env → (turns : ℕ)
+        pub gives_all : {scope : Scope} {es : List Expr} {types : List NamedType} → HaveTypes items context scope es types → list_all calls es ≡ true → (env : Env) → Fits items scope env → (turns : ℕ)
             → Gives (AreOf items types) (all_in_order (map m es) env turns)
         gives_all rules.no_types may_call env fit turns = tt
         gives_all (rules.more_types {e = e} {t = t} {more = more} {types = types} p rest) may_call env fit turns = and_then (calls e) (list_all calls more) may_call (λ one others.
@@ -246,7 +246,7 @@ module _ (items : List Item) where
             gives_then (of t) (GapsAre items (Some t ∷ types)) (m e env turns) _ (gives p one env fit turns) (λ v n is.
             gives_then (GapsAre items types) (GapsAre items (Some t ∷ types)) (gaps_in_order (map (option_map m) more) env n) _ (gives_gaps rest others env fit n) (λ vs n are. (is, are))))
 
-        gives_wanted : {scope : Scope} {p : Pattern Expr} → IsPattern items context scope p → list_all (gap_calls may) (map (λ f. f.value) p.keys) ≡ true
+        pub gives_wanted : {scope : Scope} {p : Pattern Expr} → IsPattern items context scope p → list_all (gap_calls may) (map (λ f. f.value) p.keys) ≡ true
             → list_all (gap_calls may) (map (λ f. f.value) (value_part p.values)) ≡ true → (env : Env) → Fits items scope env → (turns : ℕ)
             → Gives (AsksFor items p.fact) (wanted_of_pattern p env turns)
         gives_wanted (rules.pattern_of {p = p} fact keys values is ks vs fit_all) key_calls value_calls env fit turns =

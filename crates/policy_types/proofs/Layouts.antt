@@ -24,13 +24,13 @@ module _ {X A : Type 0} (f : X → A) where
   gaps_in [] = refl
   gaps_in (x ∷ xs) = ap (λ os. option_map f x.value ∷ os) (gaps_in xs)
 
+pub hold_all : {A : Type 0} (f : A → Bool) (xs : List A) → all_hold (map f xs) ≡ list_all f xs
+hold_all f [] = refl
+hold_all f (x ∷ xs) = ap (λ rest. f x && rest) (hold_all f xs)
+
 module _ (may : Callee → Name → Bool) where
   abbrev calls : Expr → Bool
   calls = expression_calls may
-
-  pub all_calls : (es : List Expr) → all_hold (map calls es) ≡ list_all calls es
-  all_calls [] = refl
-  all_calls (e ∷ es) = ap (λ rest. calls e && rest) (all_calls es)
 
   pub binds_calls : (binds : List (Bind Expr)) → binds_hold (map (map_bind calls) binds) ≡ list_all calls (map (λ b. b.value) binds)
   binds_calls [] = refl

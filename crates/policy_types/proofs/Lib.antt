@@ -10,3 +10,4 @@ pub mod Layouts
 pub mod Expressions
 pub mod Coverage
 pub mod Statements
+pub mod Functions
