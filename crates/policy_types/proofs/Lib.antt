@@ -11,3 +11,4 @@ pub mod Expressions
 pub mod Coverage
 pub mod Statements
 pub mod Functions
+pub mod Finish
