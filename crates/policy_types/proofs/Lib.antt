@@ -12,3 +12,5 @@ pub mod Coverage
 pub mod Statements
 pub mod Functions
 pub mod Finish
+pub mod Writes
+pub mod Blocks

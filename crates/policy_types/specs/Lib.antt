@@ -3,3 +3,4 @@ pub mod Fitting
 pub mod Endings
 pub mod Asked
 pub mod Listed
+pub mod EndsWell
