@@ -14,3 +14,4 @@ pub mod Functions
 pub mod Finish
 pub mod Writes
 pub mod Blocks
+pub mod Actions

@@ -4,3 +4,4 @@ pub mod Endings
 pub mod Asked
 pub mod Listed
 pub mod EndsWell
+pub mod ActsWell
