@@ -1,14 +1,12 @@
 -- Actions of a well-typed policy: what they publish are typed commands, and they stop for the reasons for which an action may.
-use Rattle.std.proofs.Common.{◌≡◌, ◌==◌, ◌-◌, ℕ, Bool, true, false, cond, not, ◌&&◌, ◌||◌, List, [], ◌∷◌, ◌++◌, map, slice_get, Option, Some, None, option_map, option_and_then, unwrap_or, refl, sym, ap, subst, ◌∙◌}
+use Rattle.std.proofs.Common.{◌≡◌, ◌==◌, ◌-◌, ℕ, Bool, true, false, cond, ◌&&◌, ◌||◌, List, [], ◌∷◌, ◌++◌, map, slice_get, Option, Some, None, option_map, option_and_then, unwrap_or, refl, sym, ap, subst, ◌∙◌}
 use Rattle.std.proofs.lemmas.Bool.{false≢true}
 use Rattle.std.proofs.lemmas.Option.{same_Some}
 use Rattle.std.specs.List.{list_all, list_any}
-use Rattle.std.specs.Option.{is_some}
 use Rattle.base_bytes.proofs.Bools.{and_then}
 use Rattle.base_bytes.specs.declared.value.Value.{Value}
 use Rattle.fact_store.specs.Matching.{selected}
 use Rattle.fact_store.specs.declared.row.Row.{Row}
-use Rattle.fact_store.specs.declared.wanted.Wanted.{Wanted}
 use Rattle.policy_ast.specs.declared.expr.Expr.{Expr}
 use Rattle.policy_ast.specs.declared.field.Field.{Field}
 use Rattle.policy_ast.specs.declared.item.Item.{Item}
@@ -17,18 +15,16 @@ use Rattle.policy_ast.specs.declared.pattern.Pattern.{Pattern}
 use Rattle.policy_ast.specs.declared.policy.PlacedItem.{PlacedItem}
 use Rattle.policy_ast.specs.declared.statement.Arm.{Arm}
 use Rattle.policy_ast.specs.declared.statement.Else.{Else}
-use Rattle.policy_ast.specs.declared.statement.Else.TheVariants as else_stmt
-use Rattle.policy_ast.specs.declared.statement.IfStmt.{IfStmt}
-use Rattle.policy_ast.specs.declared.statement.Stmt.{Stmt, fold_out-Stmt, map-Stmt, out-Stmt}
+use Rattle.policy_ast.specs.declared.statement.Stmt.{Stmt, fold_out-Stmt, map-Stmt}
 use Rattle.policy_ast.specs.declared.statement.Stmt.TheOpen.{Stmt-F}
-use Rattle.policy_meaning.specs.Actions.{Act, Answer, Brought, Deed, Did, Stops, Stop, Halts, IsRefused, Asks, World, ◌>>>◌, act, act_layer, acted, action_deed, action_setting, acts, after_answer, answered, arm_act, choose, deed_end, each_row, else_act, inside, published, said, told, with_turn, with_turns, world_of}
+use Rattle.policy_meaning.specs.Actions.{Act, Answer, Brought, Deed, Did, Stops, Stop, Halts, IsRefused, Asks, World, ◌>>>◌, act, act_layer, acted, action_deed, action_setting, acts, after_answer, answered, arm_act, choose, each_row, else_act, inside, published, said, told, with_turn, with_turns, world_of}
 use Rattle.policy_meaning.specs.Arms.{first_body, takes}
 use Rattle.policy_meaning.specs.Blocks.{most_turns}
-use Rattle.policy_meaning.specs.Desks.{Acts, IsActed, Posting, answer, brought}
-use Rattle.policy_meaning.specs.Environments.{Env, Setting, bound_parameters, with_value}
-use Rattle.policy_meaning.specs.Expressions.{Meaning, meaning}
+use Rattle.policy_meaning.specs.Desks.{Acts, Posting, answer, brought}
+use Rattle.policy_meaning.specs.Environments.{Env, bound_parameters, with_value}
+use Rattle.policy_meaning.specs.Expressions.{Meaning}
 use Rattle.policy_meaning.specs.Functions.{called, expression}
-use Rattle.policy_meaning.specs.Outcomes.{Halt, Check, Fault, Stuck, Out, Done, Ends}
+use Rattle.policy_meaning.specs.Outcomes.{Check, Fault, Stuck, Out, Done, Ends}
 use Rattle.policy_meaning.specs.Patterns.{row_value, wanted_in}
 use Rattle.policy_meaning.specs.Typed.{AreTyped, IsActionOf, IsCommandOf, are_fields_of, holds_at, is_action_of, is_command_of}
 use Rattle.policy_meaning.specs.Values.{struct_parts, truth}
@@ -43,7 +39,7 @@ use Rattle.policy_rules.specs.Expressions.{HasType, IsPattern, value_part}
 use Rattle.policy_rules.specs.Heads.{FactHead, command_fields, fact_named, is_command, names_item, struct_named, written_fields}
 use Rattle.policy_rules.specs.Items as item_rules
 use Rattle.policy_rules.specs.Items.{IsItem, IsOfKind, in_action}
-use Rattle.policy_rules.specs.Names.{Name, item_named}
+use Rattle.policy_rules.specs.Names.{Name}
 use Rattle.policy_rules.specs.Scopes.{Scope, with_name}
 use Rattle.policy_rules.specs.Shapes.{shapes_of}
 use Rattle.policy_rules.specs.Statements as rules
@@ -51,7 +47,6 @@ use Rattle.policy_rules.specs.Statements.{AreArms, IsBlock, IsElse, IsStmt, IsSt
 use Rattle.policy_rules.specs.Types.{declared}
 use Rattle.policy_rules.specs.WellTyped.{IsWellTyped, IsWellTypedAt, items_of}
 use Rattle.policy_rules.specs.declared.context.Block.TheVariants as block
-use Rattle.policy_rules.specs.declared.context.Context.{Context}
 use Rattle.policy_rules.specs.declared.types.NamedType.{NamedType}
 use Rattle.policy_rules.specs.declared.types.NamedType.TheVariants as ty
 use Rattle.policy_types.proofs.Coverage.{one_takes}
@@ -61,13 +56,13 @@ use Rattle.policy_types.proofs.Finish.{item_passes}
 use Rattle.policy_types.proofs.Functions.{keeps_called}
 use Rattle.policy_types.proofs.Layers.{truth_of}
 use Rattle.policy_types.proofs.Layouts.{gaps_bound, gaps_in, hold_all}
-use Rattle.policy_types.proofs.Rows.{AreRows, AreRowsOf, IsRowOf, are_fields_from, fields_are_of, row_is_struct, selected_are}
+use Rattle.policy_types.proofs.Rows.{AreRows, AreRowsOf, are_fields_from, fields_are_of, row_is_struct, selected_are}
 use Rattle.policy_types.proofs.Standing.{FactStands, HasFields, StructStands, fact_standing, struct_standing, struct_value_is}
 use Rattle.policy_types.proofs.Values.{as_bool}
 use Rattle.policy_types.specs.ActsWell.{ActsWell, AreCommands, IsTypedWorld, LeaveTyped}
 use Rattle.policy_types.specs.Asked.{AsksFor}
 use Rattle.policy_types.specs.Endings.{Gives, MayHalt}
-use Rattle.policy_types.specs.Fitting.{AreOf, Fits, IsId, IsOf, Suits, types_of}
+use Rattle.policy_types.specs.Fitting.{Fits, IsId, IsOf, Suits}
 
 module _ (items : List Item) where
   -- ---- worlds of these items
@@ -141,10 +136,10 @@ module _ (items : List Item) where
   answered_comes : (c : Brought) → IsBrought c → (w : World) → WorldIs w → (left : List Answer) → AnswersAre left → Comes anything (answered c w left)
   answered_comes c is w world [] are = (world, is)
   answered_comes c is w world (a ∷ left) are = answer_comes a.posted (record { rows = a.rows; left = left; made = w.made ++ c ∷ []; turns = w.turns }) (record {
-      rows = are.0;
-      left = are.1;
-      made = brought_both w.made c world.made is;
-    })
+    rows = are.0;
+    left = are.1;
+    made = brought_both w.made c world.made is;
+  })
 
   command_fields_by : (i : Item) → is_command i ≡ true → (w : List Field) × (written_fields i ≡ Some w)
   command_fields_by (item.Command name sections) is = (command_fields sections, refl)
@@ -164,7 +159,7 @@ module _ (items : List Item) where
       let same : s.item ≡ i.0 = same_Some s.item i.0 (sym s.named ∙ i.1) in
       let c : Brought = record { command = s.number; fields = parts.values } in
       let brought : IsBrought c =
-          ap (λ o. unwrap_or (option_map (is_command_of items parts.values) o) false) (s.stands ∙ ap Some same) ∙ command_by i.0 written.0 i.2 written.1 parts.values (are_fields_from items written.0 parts.values parts.are) in
+      ap (λ o. unwrap_or (option_map (is_command_of items parts.values) o) false) (s.stands ∙ ap Some same) ∙ command_by i.0 written.0 i.2 written.1 parts.values (are_fields_from items written.0 parts.values parts.are) in
       subst (λ o. Comes anything (published o w)) (sym parts.parts) (answered_comes c brought w world w.left world.left)
 
   -- ---- rows one after another

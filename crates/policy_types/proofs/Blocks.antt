@@ -1,34 +1,32 @@
 -- The policy block and the recall block of a command of a well-typed policy.
-use Rattle.std.proofs.Common.{◌≡◌, ◌==◌, ℕ, zero, suc, ◌+◌, Bool, true, false, cond, not, ◌&&◌, ◌||◌, List, [], ◌∷◌, map, length, nat_lt, take, slice_get, Option, Some, None, option_map, option_and_then, unwrap_or, refl, sym, ap, subst, ◌∙◌, arith}
-use Rattle.std.specs.Prelude.{count_by, filter_map, position}
-use Rattle.std.proofs.lemmas.Bool.{eqb-true, false≢true, lt-ltb}
+use Rattle.std.proofs.Common.{◌≡◌, ◌==◌, ℕ, zero, suc, ◌+◌, Bool, true, false, cond, not, ◌||◌, List, [], ◌∷◌, length, nat_lt, take, slice_get, Option, Some, None, option_map, option_and_then, unwrap_or, refl, sym, ap, subst, ◌∙◌, arith}
+use Rattle.std.specs.Prelude.{count_by}
+use Rattle.std.proofs.lemmas.Bool.{false≢true, lt-ltb}
 use Rattle.std.proofs.lemmas.List.Folds.{find_at}
 use Rattle.std.proofs.lemmas.Option.{same_Some, slice_get_within}
 use Rattle.std.specs.List.{list_all, list_any, position_or_len}
-use Rattle.std.specs.Option.{is_some}
 use Rattle.std.specs.Str.{bytes_eq}
-use Rattle.base_bytes.proofs.Bools.{and_both, and_then}
+use Rattle.base_bytes.proofs.Bools.{and_then}
 use Rattle.base_bytes.specs.declared.value.Value.{Value}
 use Rattle.base_bytes.specs.declared.value.Value.TheVariants as value
 use Rattle.fact_store.specs.declared.row.Row.{Row}
-use Rattle.policy_ast.specs.declared.field.Field.{Field}
 use Rattle.policy_ast.specs.declared.item.Item.{Item}
 use Rattle.policy_ast.specs.declared.item.Item.TheVariants as item
 use Rattle.policy_ast.specs.declared.item.Section.{Section}
 use Rattle.policy_ast.specs.declared.item.Section.TheVariants as section
 use Rattle.policy_ast.specs.declared.policy.PlacedItem.{PlacedItem}
 use Rattle.policy_ast.specs.declared.statement.Stmt.{Stmt}
-use Rattle.policy_meaning.specs.Applying.{Ended, Passes, Checks, Faults, Sticks, block_ended, flow_ended, halt_ended}
-use Rattle.policy_meaning.specs.Blocks.{body_ended, called_sections, command_setting, most_turns, policy_block, policy_body, policy_ended, recall_block, recall_body, recall_ended, sections_of, with_sections}
+use Rattle.policy_meaning.specs.Applying.{Ended, Passes, Checks, Faults, Sticks, block_ended, flow_ended}
+use Rattle.policy_meaning.specs.Blocks.{body_ended, command_setting, most_turns, policy_block, policy_body, policy_ended, recall_block, recall_body, recall_ended, sections_of, with_sections}
 use Rattle.policy_meaning.specs.Environments.{Setting}
 use Rattle.policy_meaning.specs.Finish.{finish_called}
 use Rattle.policy_meaning.specs.Functions.{called, finish, statements}
-use Rattle.policy_meaning.specs.Outcomes.{Halt, Check, Fault, Stuck, Out, Done, Ends}
+use Rattle.policy_meaning.specs.Outcomes.{Check, Fault, Stuck, Out, Done, Ends}
 use Rattle.policy_meaning.specs.Statements.{Flow, Goes, Returns, Finishes, Ran}
 use Rattle.policy_meaning.specs.Typed.{AreEffectsOf, AreTyped, IsCommandOf, are_fields_of, holds_at, is_command_of}
 use Rattle.policy_meaning.specs.declared.call.Call.{Call}
-use Rattle.policy_rules.specs.Calls.{Callee, chain_within, finish_calls, longest_chain, section_calls, statement_calls}
-use Rattle.policy_rules.specs.Commands.{has_its_sections, is_policy, is_fields, is_seal, is_open, is_recall, is_attributes, stands_at_most_once, stands_once}
+use Rattle.policy_rules.specs.Calls.{Callee, chain_within, longest_chain, section_calls, statement_calls}
+use Rattle.policy_rules.specs.Commands.{has_its_sections, is_policy, is_recall, is_attributes, stands_at_most_once, stands_once}
 use Rattle.policy_rules.specs.Heads.{command_fields, struct_named, written_fields}
 use Rattle.policy_rules.specs.Items as item_rules
 use Rattle.policy_rules.specs.Items.{AreSections, IsItem, IsOfKind, in_command, is_free_name}
@@ -36,8 +34,6 @@ use Rattle.policy_rules.specs.Names.{Name, is_among, is_named, item_named, name_
 use Rattle.policy_rules.specs.Statements.{IsBlock, ends_in_return, within_finish}
 use Rattle.policy_rules.specs.Types.{declared}
 use Rattle.policy_rules.specs.WellTyped.{IsWellTyped, IsWellTypedAt, items_of}
-use Rattle.policy_rules.specs.declared.context.Block.TheVariants as block
-use Rattle.policy_rules.specs.declared.context.Context.{Context}
 use Rattle.policy_rules.specs.declared.types.NamedType.{NamedType}
 use Rattle.policy_rules.specs.declared.types.NamedType.TheVariants as ty
 use Rattle.policy_types.proofs.Fields.{name_same}
@@ -50,7 +46,7 @@ use Rattle.policy_types.proofs.Statements.{FlowIs, Lists, runs_block}
 use Rattle.policy_types.proofs.Writes.{EndsTyped, applied_ends}
 use Rattle.policy_types.specs.EndsWell.{EndsWell}
 use Rattle.policy_types.specs.Endings.{Gives}
-use Rattle.policy_types.specs.Fitting.{AreOf, Fits, IsId, IsOf, Suits, types_of}
+use Rattle.policy_types.specs.Fitting.{IsId, IsOf, Suits}
 
 -- ---- the item of a number is the first of its name
 
@@ -137,7 +133,7 @@ module _ (items : List Item) (well : (n : ℕ) → IsWellTypedAt items n) where
   -- ---- a block
 
   module _ (rows : List Row) (typed : AreRows items rows) where
-    command_lists : (name : Name) (setting : Setting) → Suits items (in_command name) setting → Lists items (in_command name) longest (finish items rows setting)
+    pub command_lists : (name : Name) (setting : Setting) → Suits items (in_command name) setting → Lists items (in_command name) longest (finish items rows setting)
     command_lists name setting suits at scope stmts are calls env fit turns =
         lists_all items well rows typed (within_finish (in_command name)) setting finish_suits longest (called items rows longest_chain) (keeps_called items well rows typed longest_chain) longest
         (finish_called items (alone items well rows typed) longest_chain) (lists_called items well rows typed longest_chain) are calls calls env fit turns
@@ -189,8 +185,12 @@ module _ (items : List Item) (well : (n : ℕ) → IsWellTypedAt items n) where
           same = same_Some stands.number call.command (sym stands.numbered ∙ number_of_item call.command (item.Command name sections) name at refl)
 
           own : HasThis name
-          own = (value.Struct call.command call.fields, refl, subst (λ n. IsOf items (ty.Struct name) (value.Struct n call.fields)) same
-              (struct_value_made items name (declared (command_fields sections)) stands call.fields (fields_are_of items (command_fields sections) call.fields are)))
+          own = (
+            value.Struct call.command call.fields,
+            refl,
+            subst (λ n. IsOf items (ty.Struct name) (value.Struct n call.fields)) same
+                (struct_value_made items name (declared (command_fields sections)) stands call.fields (fields_are_of items (command_fields sections) call.fields are)),
+          )
 
       policy_by : (name : Name) (sections : List Section) → Suits items (in_command name) (command_setting call) → AreSections items name sections → has_its_sections sections ≡ true
           → list_all (section_calls longest) sections ≡ true → (o : Option (List Stmt)) → policy_body sections ≡ o → EndsTyped items (policy_ended items call rows o)

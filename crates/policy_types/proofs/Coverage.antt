@@ -1,5 +1,5 @@
 -- In a `match` that covers all values, one of the arms takes each value.
-use Rattle.std.proofs.Common.{◌≡◌, ℕ, zero, suc, ◌+◌, ◌<◌, Bool, true, false, cond, not, ◌&&◌, ◌||◌, ◌==◌, List, [], ◌∷◌, ◌++◌, length, map, nat_lt, slice_get, Option, Some, None, option_map, option_and_then, unwrap_or, refl, sym, ap, subst, ◌∙◌, arith}
+use Rattle.std.proofs.Common.{◌≡◌, ℕ, zero, suc, ◌+◌, ◌<◌, Bool, true, false, cond, not, ◌&&◌, ◌==◌, List, [], ◌∷◌, length, nat_lt, slice_get, Option, Some, None, unwrap_or, refl, sym, ap, subst, ◌∙◌, arith}
 use Rattle.std.specs.Prelude.{position}
 use Rattle.std.proofs.lemmas.Bool.{eqb-true, false≢true, lt-ltb, ltb-true}
 use Rattle.std.proofs.lemmas.List.Folds.{list_any-append}
@@ -7,12 +7,10 @@ use Rattle.std.proofs.lemmas.Option.{same_Some}
 use Rattle.std.specs.List.{list_all, list_any, position_or_len}
 use Rattle.std.specs.Option.{is_some}
 use Rattle.std.specs.Str.{bytes_eq}
-use Rattle.base_bytes.proofs.Bools.{and_both, and_then, either, or_left, or_right}
+use Rattle.base_bytes.proofs.Bools.{and_then, either, or_left, or_right}
 use Rattle.base_bytes.proofs.Formats.{bind_then}
 use Rattle.base_bytes.specs.Values.{has_type, is_variant, shape_at}
-use Rattle.base_bytes.specs.declared.shapes.Shape.TheVariants as shape
 use Rattle.base_bytes.specs.declared.shapes.Shapes.{Shapes}
-use Rattle.base_bytes.specs.declared.ty.Ty.{Ty}
 use Rattle.base_bytes.specs.declared.ty.Ty.TheOpen.{Ty-F}
 use Rattle.base_bytes.specs.declared.ty.Ty.TheVariants as value_type
 use Rattle.base_bytes.specs.declared.value.Value.{Value, out-Value, roll-Value, roll-out-Value}
@@ -21,7 +19,6 @@ use Rattle.base_bytes.specs.declared.value.Value.TheVariants as value
 use Rattle.fact_store.proofs.Sameness.{same_value_decides}
 use Rattle.policy_ast.specs.declared.item.Item.{Item}
 use Rattle.policy_ast.specs.declared.item.Item.TheVariants as item
-use Rattle.policy_ast.specs.declared.literal.Literal.{Literal}
 use Rattle.policy_ast.specs.declared.literal.Literal.TheVariants as literal
 use Rattle.policy_ast.specs.declared.pattern.ArmPattern.{ArmPattern}
 use Rattle.policy_ast.specs.declared.pattern.ArmPattern.TheVariants as arm_pattern
@@ -29,10 +26,9 @@ use Rattle.policy_ast.specs.declared.pattern.PatternLiteral.{PatternLiteral}
 use Rattle.policy_ast.specs.declared.pattern.PatternLiteral.TheVariants as pattern
 use Rattle.policy_meaning.specs.Arms.{is_value, listed_value, takes}
 use Rattle.policy_meaning.specs.Environments.{variant_value}
-use Rattle.policy_rules.specs.Coverage.{all_listed, all_values_layer, any_is_last, are_arm_patterns, are_distinct_patterns, arms_cover, is_any, listed, lists_all_values, may_match, may_match_layer, pattern_type, same_literal, same_pattern, some_fits}
+use Rattle.policy_rules.specs.Coverage.{all_listed, all_values_layer, any_is_last, are_arm_patterns, are_distinct_patterns, arms_cover, is_any, lists_all_values, may_match, may_match_layer, pattern_type, same_pattern, some_fits}
 use Rattle.policy_rules.specs.FieldLists.{are_distinct}
 use Rattle.policy_rules.specs.Heads.{enum_named, variants}
-use Rattle.policy_rules.specs.Items.{are_variants}
 use Rattle.policy_rules.specs.Names.{Name, is_among, number_named}
 use Rattle.policy_rules.specs.Shapes.{numbered, shape_of, shapes_of, value_type_of}
 use Rattle.policy_rules.specs.WellTyped.{IsWellTypedAt}
@@ -40,7 +36,7 @@ use Rattle.policy_rules.specs.declared.types.NamedType.{NamedType, out-NamedType
 use Rattle.policy_rules.specs.declared.types.NamedType.TheOpen.{NamedType-F}
 use Rattle.policy_rules.specs.declared.types.NamedType.TheVariants as ty
 use Rattle.policy_types.proofs.Fields.{name_same, same_name}
-use Rattle.policy_types.proofs.Layers.{has_parts, no_value, opens}
+use Rattle.policy_types.proofs.Layers.{has_parts, opens}
 use Rattle.policy_types.proofs.Standing.{bool_type, enum_type, enum_variants_of, shape_stands, standing}
 use Rattle.policy_types.specs.Fitting.{IsOf}
 
@@ -143,10 +139,10 @@ module _ (items : List Item) where
 
   variant_by : (n : ℕ) (v : Value) (l : Value-F Value) → out-Value v ≡ l → has_parts shapes l (Ty-F.Enum n) ≡ true → IsVariant n v
   variant_by n v (Value-F.Enum k ordinal) of is = and_then (k == n) (is_variant ordinal (shape_at shapes k)) is (λ one within. record {
-      ordinal = ordinal;
-      same = ap (λ m. value.Enum m ordinal) (sym (eqb-true k n one)) ∙ sym (value.rolls-Enum k ordinal) ∙ ap roll-Value (sym of) ∙ roll-out-Value v;
-      within = subst (λ m. is_variant ordinal (shape_at shapes m) ≡ true) (eqb-true k n one) within;
-    })
+    ordinal = ordinal;
+    same = ap (λ m. value.Enum m ordinal) (sym (eqb-true k n one)) ∙ sym (value.rolls-Enum k ordinal) ∙ ap roll-Value (sym of) ∙ roll-out-Value v;
+    within = subst (λ m. is_variant ordinal (shape_at shapes m) ≡ true) (eqb-true k n one) within;
+  })
   variant_by n v l of is = absurd (false≢true is)
 
   ordinal_within : (ordinal : ℕ) (i : Item) (all : List Name) → variants i ≡ Some all → is_variant ordinal (shape_of items i) ≡ true → ordinal < length all
@@ -164,13 +160,13 @@ module _ (items : List Item) where
     enum_listed name all named v typed patterns is = bind_then _ variants all named (λ i at has.
         let s = standing items name i at in
         let of_enum : has_type shapes v (value_type.Enum s.number) ≡ true =
-            subst (λ t. has_type shapes v t ≡ true) (enum_type items name ∙ ap (λ o. numbered value_type.Enum o (number_named items name)) named ∙ ap (numbered value_type.Enum (Some all)) s.numbered) typed in
+        subst (λ t. has_type shapes v t ≡ true) (enum_type items name ∙ ap (λ o. numbered value_type.Enum o (number_named items name)) named ∙ ap (numbered value_type.Enum (Some all)) s.numbered) typed in
         let is_v : IsVariant s.number v = variant_by s.number v (out-Value v) refl (opens shapes v (value_type.Enum s.number) (Ty-F.Enum s.number) (value_type.outs-Enum s.number) of_enum) in
         let lt : is_v.ordinal < length all = ordinal_within is_v.ordinal i all has (subst (λ s. is_variant is_v.ordinal s ≡ true) (shape_stands items s.number i s.stands) is_v.within) in
         let variant = element_at all is_v.ordinal lt in
         let apart : are_distinct all ≡ true = and_then _ (are_distinct all) (enum_variants_of items well name all named) (λ sized apart. apart) in
         let placed : position (bytes_eq variant.0) all ≡ Some is_v.ordinal =
-            ap (λ k. cond (nat_lt k (length all)) (Some k) None) (place_is all apart is_v.ordinal variant.0 variant.1) ∙ ap (λ b. cond b (Some is_v.ordinal) None) (lt-ltb is_v.ordinal (length all) lt) in
+        ap (λ k. cond (nat_lt k (length all)) (Some k) None) (place_is all apart is_v.ordinal variant.0 variant.1) ∙ ap (λ b. cond b (Some is_v.ordinal) None) (lt-ltb is_v.ordinal (length all) lt) in
         any_by (same_pattern (pattern.Literal (literal.Variant name variant.0))) (lists v)
         (variant_listed v (value.Enum s.number is_v.ordinal) name variant.0 (variant_value_is name variant.0 s.number is_v.ordinal all s.numbered named placed) is_v.same) patterns
         (all_at (λ variant. list_any (same_pattern (pattern.Literal (literal.Variant name variant))) patterns) all is_v.ordinal variant.0 is variant.1))

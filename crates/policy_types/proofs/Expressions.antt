@@ -1,18 +1,17 @@
 -- An expression gives a value of its type, or a check fails, or there is a fault.
-use Rattle.std.proofs.Common.{◌≡◌, ℤ, pos, negsuc, ℕ, ◌<◌, ◌≤◌, ◌^◌, Bool, true, false, cond, not, ◌&&◌, ◌||◌, List, [], ◌∷◌, codes, map, nat_le, nat_lt, Option, Some, None, option_map, option_and_then, refl, sym, ap, subst, ◌∙◌}
+use Rattle.std.proofs.Common.{◌≡◌, ℤ, pos, negsuc, ℕ, ◌^◌, Bool, true, false, ◌&&◌, ◌||◌, List, ◌∷◌, codes, map, nat_le, Option, Some, None, option_map, refl, sym, ap, subst, ◌∙◌}
 use Rattle.std.proofs.lemmas.Bool.{false≢true, ltb-true}
 use Rattle.std.proofs.lemmas.Option.{same_Some}
 use Rattle.std.specs.List.{list_all}
 use Rattle.std.specs.Option.{is_some}
 use Rattle.std.specs.Str.{bytes_eq}
-use Rattle.base_bytes.proofs.Bools.{and_then, either}
+use Rattle.base_bytes.proofs.Bools.{and_then}
 use Rattle.base_bytes.specs.Values.{fits_int, has_type}
 use Rattle.base_bytes.specs.declared.value.Value.{Value}
 use Rattle.base_bytes.specs.declared.value.Value.TheVariants as value
 use Rattle.fact_store.specs.Matching.{first_row, row_count}
 use Rattle.fact_store.specs.declared.row.Row.{Row}
 use Rattle.fact_store.specs.declared.wanted.Wanted.{Wanted}
-use Rattle.policy_ast.specs.declared.bind.Bind.{Bind}
 use Rattle.policy_ast.specs.declared.expr.Count.{Count}
 use Rattle.policy_ast.specs.declared.expr.ElseExpr.{ElseExpr}
 use Rattle.policy_ast.specs.declared.expr.Expr.{Expr, fold_out-Expr, map-Expr}
@@ -24,31 +23,30 @@ use Rattle.policy_ast.specs.declared.item.Item.{Item}
 use Rattle.policy_ast.specs.declared.pattern.Pattern.{Pattern}
 use Rattle.policy_meaning.specs.Environments.{Env, Setting, bound, foreign_value, literal_value, name_value, with_value}
 use Rattle.policy_meaning.specs.Expressions.{Calls, Meaning, block_meaning, decided, else_meaning, introduced, meaning, meaning_layer, struct_value}
-use Rattle.policy_meaning.specs.Outcomes.{Halt, Check, Fault, Stuck, Out, Done, Ends, ◌>>=◌, all_in_order, branch, or_stuck}
-use Rattle.policy_meaning.specs.Patterns.{gaps_in_order, row_value, value_names, wanted, wanted_by, wanted_in, wanted_of}
-use Rattle.policy_meaning.specs.Values.{comparison_value, arithmetic_value, counted, field_value, limit_of, negated, optional_of, optional_parts, presence_value, truth, unary_value}
+use Rattle.policy_meaning.specs.Outcomes.{Check, Fault, Stuck, Out, Done, Ends, all_in_order, or_stuck}
+use Rattle.policy_meaning.specs.Patterns.{gaps_in_order, row_value, value_names, wanted, wanted_by, wanted_of}
+use Rattle.policy_meaning.specs.Values.{comparison_value, arithmetic_value, counted, field_value, limit_of, negated, optional_of, presence_value, truth}
 use Rattle.policy_meaning.specs.declared.ends.FaultKind.TheVariants as fault
-use Rattle.policy_rules.proofs.Maps.{bind_names, bind_values, free_names, map_bind, map_block, map_else, map_free, map_let, map_pattern, value_part_map}
-use Rattle.policy_rules.specs.Calls.{Callee, a_function, all_hold, block_holds, else_holds, expression_calls, expression_calls_layer, gap_calls, gaps_call, gaps_hold, pattern_calls, pattern_holds}
+use Rattle.policy_rules.proofs.Maps.{bind_names, bind_values, free_names, map_block, map_else, map_free, map_let, map_pattern, value_part_map}
+use Rattle.policy_rules.specs.Calls.{Callee, a_function, all_hold, block_holds, else_holds, expression_calls, expression_calls_layer, gap_calls, gaps_hold, pattern_holds}
 use Rattle.policy_rules.specs.Expressions as rules
 use Rattle.policy_rules.specs.Expressions.{HasBlockType, HasElseType, HasType, HasTypeByForm, HaveGapTypes, HaveTypes, Introduce, IsPattern, arithmetic_type, count_type, is_device_call, is_envelope_call, is_positive, value_part}
 use Rattle.policy_rules.specs.FieldLists.{are_distinct, are_leading_keys, fit_values, gaps_are_last, in_any_order, pattern_fits}
 use Rattle.policy_rules.specs.Heads.{FunctionHead, FactHead, fact_named, function_named, struct_named}
 use Rattle.policy_rules.specs.Names.{Name}
-use Rattle.policy_rules.specs.Scopes.{Scope, names_in, type_in, with_name}
+use Rattle.policy_rules.specs.Scopes.{Scope, type_in}
 use Rattle.policy_rules.specs.Shapes.{shapes_of}
-use Rattle.policy_rules.specs.Types.{joined}
 use Rattle.policy_rules.specs.WellTyped.{IsWellTypedAt}
 use Rattle.policy_rules.specs.declared.context.Block.TheVariants as block
 use Rattle.policy_rules.specs.declared.context.Context.{Context}
 use Rattle.policy_rules.specs.declared.types.Named.{Named}
 use Rattle.policy_rules.specs.declared.types.NamedType.{NamedType}
 use Rattle.policy_rules.specs.declared.types.NamedType.TheVariants as ty
-use Rattle.policy_types.proofs.Fields.{arguments_are, fits_with, in_any_order_given, name_same, same_name}
+use Rattle.policy_types.proofs.Fields.{arguments_are, fits_with, in_any_order_given, same_name}
 use Rattle.policy_types.proofs.Fitting.{joined_first, joined_second}
 use Rattle.policy_types.proofs.Giving.{branch_gives, gives_then, there_gives}
 use Rattle.policy_types.proofs.Layers.{id_made, truth_of}
-use Rattle.policy_types.proofs.Layouts.{binds_calls, gaps_bound, gaps_calls, gaps_in, gaps_of, hold_all}
+use Rattle.policy_types.proofs.Layouts.{binds_calls, gaps_calls, gaps_of, hold_all}
 use Rattle.policy_types.proofs.Rows.{AreRows, GapsAre, first_is, pattern_asks}
 use Rattle.policy_types.proofs.Standing.{FactStands, StructStands, fact_standing, field_of_struct, id_type, struct_distinct, struct_standing, struct_value_made}
 use Rattle.policy_types.proofs.Values.{Has, as_bool, calculation, counted_is, equality, has_gives, is_bool, is_nothing, is_something, literal_has, name_has, negation, order, presence, unwrapping}

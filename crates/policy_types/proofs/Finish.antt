@@ -1,10 +1,10 @@
 -- What `finish` lists is typed, finish functions with it.
-use Rattle.std.proofs.Common.{◌≡◌, ◌==◌, ℕ, zero, suc, Bool, true, false, ◌&&◌, List, [], ◌∷◌, ◌++◌, if◌then◌else◌, length, map, slice_get, Option, Some, None, option_map, option_and_then, unwrap_or, refl, sym, ap, subst, ◌∙◌}
+use Rattle.std.proofs.Common.{◌≡◌, ℕ, zero, suc, Bool, true, false, ◌&&◌, List, [], ◌∷◌, ◌++◌, if◌then◌else◌, map, slice_get, Option, Some, None, option_map, option_and_then, unwrap_or, refl, sym, ap, subst, ◌∙◌}
 use Rattle.std.proofs.lemmas.Bool.{false≢true}
 use Rattle.std.proofs.lemmas.Option.{same_Some}
 use Rattle.std.specs.List.{list_all}
 use Rattle.std.specs.Option.{is_some}
-use Rattle.base_bytes.proofs.Bools.{and_both, and_then}
+use Rattle.base_bytes.proofs.Bools.{and_then}
 use Rattle.base_bytes.proofs.Formats.{bind_then}
 use Rattle.base_bytes.specs.declared.value.Value.{Value}
 use Rattle.fact_store.specs.Rows.{are_keys}
@@ -12,7 +12,6 @@ use Rattle.fact_store.specs.declared.row.Row.{Row}
 use Rattle.fact_store.specs.declared.wanted.Wanted.{Wanted}
 use Rattle.policy_ast.specs.declared.bind.Bind.{Bind}
 use Rattle.policy_ast.specs.declared.expr.Expr.{Expr}
-use Rattle.policy_ast.specs.declared.field.EffectField.{EffectField}
 use Rattle.policy_ast.specs.declared.field.Field.{Field}
 use Rattle.policy_ast.specs.declared.finish.FinishStmt.{FinishStmt}
 use Rattle.policy_ast.specs.declared.item.Item.{Item}
@@ -22,28 +21,25 @@ use Rattle.policy_meaning.specs.Environments.{Env, Setting, bound, bound_paramet
 use Rattle.policy_meaning.specs.Expressions.{Calls, Meaning, meaning}
 use Rattle.policy_meaning.specs.Finish.{Change, Create, Update, Delete, Emit, FinishCalls, all_listed, bind_names, bind_values, create_of, delete_of, emit_of, fact_values, finish_called, finish_entered, listed, listing, update_of}
 use Rattle.policy_meaning.specs.Functions.{called}
-use Rattle.policy_meaning.specs.Outcomes.{Out, Done, Ends, ◌>>=◌, all_in_order, or_stuck}
+use Rattle.policy_meaning.specs.Outcomes.{Out, ◌>>=◌, all_in_order}
 use Rattle.policy_meaning.specs.Patterns.{wanted_in}
-use Rattle.policy_meaning.specs.Typed.{are_fields_of, holds_at, is_effect_of, is_typed_row}
-use Rattle.policy_meaning.specs.Values.{in_order, struct_parts}
-use Rattle.policy_rules.specs.Calls.{Callee, a_finish_function, a_function, binds_call, called_calls, chain_within, expression_calls, finish_calls, gaps_call, is_no_call, item_calls, longest_chain, may_chain}
-use Rattle.policy_rules.specs.Expressions.{HasType, HaveTypes, IsPattern, value_part}
-use Rattle.policy_rules.specs.FieldLists.{in_any_order, in_declared_order}
+use Rattle.policy_meaning.specs.Typed.{are_fields_of, is_effect_of}
+use Rattle.policy_rules.specs.Calls.{Callee, a_finish_function, binds_call, called_calls, chain_within, expression_calls, finish_calls, gaps_call, is_no_call, longest_chain, may_chain}
+use Rattle.policy_rules.specs.Expressions.{HaveTypes, IsPattern, value_part}
 use Rattle.policy_rules.specs.Finish as rules
 use Rattle.policy_rules.specs.Finish.{AreFinishStmts, BindKeys, BindValues, IsFinishStmt, are_plain}
 use Rattle.policy_rules.specs.Heads.{FactHead, fact_named, finish_function_named, finish_parameters, is_effect, names_item, struct_named, written_fields}
 use Rattle.policy_rules.specs.Items as item_rules
 use Rattle.policy_rules.specs.Items.{IsOfKind, in_finish_function}
-use Rattle.policy_rules.specs.Names.{Name, item_named, number_named}
-use Rattle.policy_rules.specs.Scopes.{Scope, names_in}
+use Rattle.policy_rules.specs.Names.{Name, item_named}
+use Rattle.policy_rules.specs.Scopes.{Scope}
 use Rattle.policy_rules.specs.Types.{declared}
 use Rattle.policy_rules.specs.WellTyped.{IsWellTypedAt}
-use Rattle.policy_rules.specs.declared.context.Block.TheVariants as block
 use Rattle.policy_rules.specs.declared.context.Context.{Context}
 use Rattle.policy_rules.specs.declared.types.Named.{Named}
 use Rattle.policy_rules.specs.declared.types.NamedType.{NamedType}
 use Rattle.policy_rules.specs.declared.types.NamedType.TheVariants as ty
-use Rattle.policy_types.proofs.Expressions.{Keeps, gives, gives_all, gives_wanted, wanted_of_pattern}
+use Rattle.policy_types.proofs.Expressions.{Keeps, gives, gives_all, gives_wanted}
 use Rattle.policy_types.proofs.Fields.{arguments_are, in_any_order_given, keys_are, parameters_fit}
 use Rattle.policy_types.proofs.Functions.{keeps_called, nothing_asked}
 use Rattle.policy_types.proofs.Giving.{gives_then, there_gives, turn_gives}
@@ -100,8 +96,7 @@ module _ (items : List Item) where
       let named : struct_named items name ≡ Some (declared w.0) = ap (option_and_then (λ i. option_map declared (written_fields i))) i.1 ∙ ap (option_map declared) w.1 in
       let s : StructStands items name (declared w.0) = struct_standing items name (declared w.0) named in
       let parts : HasFields items name (declared w.0) s.number v = struct_value_is items name (declared w.0) s v is in
-      let same : s.item ≡ i.0 = same_Some s.item i.0 (sym s.named ∙ i.1) in
-      (
+      let same : s.item ≡ i.0 = same_Some s.item i.0 (sym s.named ∙ i.1) in (
         Emit (record { effect = s.number; fields = parts.values }),
         ap (option_map (λ parts. Emit (record { effect = parts.0; fields = parts.1 }))) parts.parts,
         ap (λ o. unwrap_or (option_map (is_effect_of items parts.values) o) false) (s.stands ∙ ap Some same) ∙ effect_by i.0 w.0 i.2 w.1 parts.values (are_fields_from items w.0 parts.values parts.are),
@@ -133,13 +128,12 @@ module _ (items : List Item) (well : (n : ℕ) → IsWellTypedAt items n) where
       → fact_values fact given ≡ Some ordered → AreOf items (types_of fact.values) ordered → HasChange (update_of items name old given)
   update_has name fact is old asks given ordered in_their_order are =
       let s : FactStands items name fact = fact_standing items name fact is in
-      let same : old.fact ≡ s.number = same_Some old.fact s.number (sym asks.numbered ∙ s.numbered) in
-      (
+      let same : old.fact ≡ s.number = same_Some old.fact s.number (sym asks.numbered ∙ s.numbered) in (
         Update old ordered,
         rw (is, in_their_order) refl,
         (
           ap (λ o. unwrap_or (option_map (are_values_of items ordered) o) false) (ap (slice_get items) same ∙ s.stands)
-          ∙ are_fields_from items s.values ordered (subst (λ fields. AreOf items (types_of fields) ordered) (sym s.declares_values) are),
+              ∙ are_fields_from items s.values ordered (subst (λ fields. AreOf items (types_of fields) ordered) (sym s.declares_values) are),
           asks.keys,
         ),
       )

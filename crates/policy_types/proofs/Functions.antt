@@ -1,24 +1,23 @@
 -- Calls of functions give values of their declared types.
-use Rattle.std.proofs.Common.{◌≡◌, ℕ, zero, suc, Bool, true, false, List, map, Option, Some, None, slice_get, option_and_then, refl, sym, ap, subst, ◌∙◌}
+use Rattle.std.proofs.Common.{◌≡◌, ℕ, zero, suc, Bool, true, List, Some, None, refl, sym, ap, subst, ◌∙◌}
 use Rattle.std.proofs.lemmas.Bool.{false≢true}
 use Rattle.std.proofs.lemmas.Option.{same_Some}
 use Rattle.std.specs.List.{list_all}
 use Rattle.base_bytes.proofs.Formats.{bind_then}
 use Rattle.base_bytes.specs.declared.value.Value.{Value}
 use Rattle.fact_store.specs.declared.row.Row.{Row}
-use Rattle.policy_ast.specs.declared.expr.Expr.{Expr}
 use Rattle.policy_ast.specs.declared.field.Field.{Field}
 use Rattle.policy_ast.specs.declared.field.FieldType.{FieldType}
 use Rattle.policy_ast.specs.declared.item.Item.{Item}
 use Rattle.policy_ast.specs.declared.item.Item.TheVariants as item
 use Rattle.policy_ast.specs.declared.statement.Stmt.{Stmt}
 use Rattle.policy_meaning.specs.Environments.{bound_parameters, no_setting}
-use Rattle.policy_meaning.specs.Expressions.{Meaning, meaning}
+use Rattle.policy_meaning.specs.Expressions.{meaning}
 use Rattle.policy_meaning.specs.Functions.{called, entered, no_listing, returned}
-use Rattle.policy_meaning.specs.Outcomes.{Out, Done, Ends, ◌>>=◌}
+use Rattle.policy_meaning.specs.Outcomes.{◌>>=◌}
 use Rattle.policy_meaning.specs.Statements.{Flow, Goes, Returns, Finishes, Ran, body_run}
 use Rattle.policy_rules.specs.Calls.{Callee, a_function, called_calls, chain_within, is_no_call, statement_calls}
-use Rattle.policy_rules.specs.Heads.{FunctionHead, function_head, function_named}
+use Rattle.policy_rules.specs.Heads.{FunctionHead, function_head}
 use Rattle.policy_rules.specs.Items as item_rules
 use Rattle.policy_rules.specs.Items.{IsOfKind, in_function}
 use Rattle.policy_rules.specs.Names.{Name, item_named}
@@ -36,7 +35,7 @@ use Rattle.policy_types.proofs.Rows.{AreRows}
 use Rattle.policy_types.proofs.Standing.{kind_at, standing}
 use Rattle.policy_types.proofs.Statements.{FlowIs, Lists, runs_block}
 use Rattle.policy_types.specs.Endings.{Gives}
-use Rattle.policy_types.specs.Fitting.{AreOf, Fits, IsOf, Suits, types_of}
+use Rattle.policy_types.specs.Fitting.{AreOf, IsOf, Suits, types_of}
 
 -- a context that asks for nothing is suited by knowing nothing
 pub nothing_asked : (items : List Item) (context : Context) → context.this ≡ None → (context.block ≡ block.Command → ⊥) → (context.block ≡ block.Action → ⊥) → Suits items context no_setting

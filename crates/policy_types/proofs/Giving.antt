@@ -1,6 +1,6 @@
 -- Evaluations one after another that give what is asked for.
-use Rattle.std.proofs.Common.{◌≡◌, ◌==◌, ◌-◌, ℕ, Bool, true, false, cond, List, [], ◌∷◌, map, Option, Some, None, refl, sym, ap, subst, ◌∙◌}
-use Rattle.policy_meaning.specs.Outcomes.{Halt, Check, Fault, Stuck, Out, Done, Ends, ◌>>=◌, branch, or_stuck, with_turn}
+use Rattle.std.proofs.Common.{◌≡◌, ◌==◌, ◌-◌, ℕ, Bool, true, false, cond, Option, Some, sym, subst}
+use Rattle.policy_meaning.specs.Outcomes.{Check, Fault, Stuck, Out, Done, Ends, ◌>>=◌, branch, or_stuck, with_turn}
 use Rattle.policy_meaning.specs.declared.ends.FaultKind.TheVariants as fault
 use Rattle.policy_types.specs.Endings.{Gives}
 

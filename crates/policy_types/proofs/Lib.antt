@@ -15,3 +15,4 @@ pub mod Finish
 pub mod Writes
 pub mod Blocks
 pub mod Actions
+pub mod PolicyLaws

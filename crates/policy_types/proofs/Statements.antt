@@ -1,7 +1,6 @@
 -- Statements of functions and of policy and recall blocks: how they go on, and the names behind them.
-use Rattle.std.proofs.Common.{◌≡◌, ℕ, Bool, true, false, cond, not, ◌&&◌, ◌||◌, List, [], ◌∷◌, map, Option, Some, None, refl, sym, ap, subst, ◌∙◌}
+use Rattle.std.proofs.Common.{◌≡◌, ℕ, Bool, true, false, cond, ◌&&◌, ◌||◌, List, [], ◌∷◌, map, Option, Some, None, refl, sym, ap, subst, ◌∙◌}
 use Rattle.std.proofs.lemmas.Bool.{false≢true}
-use Rattle.std.proofs.lemmas.Option.{same_Some}
 use Rattle.std.specs.List.{list_all, list_any}
 use Rattle.base_bytes.proofs.Bools.{and_then}
 use Rattle.base_bytes.specs.declared.value.Value.{Value}
@@ -11,15 +10,13 @@ use Rattle.policy_ast.specs.declared.finish.FinishStmt.{FinishStmt}
 use Rattle.policy_ast.specs.declared.item.Item.{Item}
 use Rattle.policy_ast.specs.declared.statement.Arm.{Arm}
 use Rattle.policy_ast.specs.declared.statement.Else.{Else}
-use Rattle.policy_ast.specs.declared.statement.Else.TheVariants as else_stmt
-use Rattle.policy_ast.specs.declared.statement.IfStmt.{IfStmt}
 use Rattle.policy_ast.specs.declared.statement.Stmt.{Stmt, fold_out-Stmt, map-Stmt, out-Stmt}
 use Rattle.policy_ast.specs.declared.statement.Stmt.TheOpen.{Stmt-F}
 use Rattle.policy_meaning.specs.Arms.{first_body, takes}
-use Rattle.policy_meaning.specs.Environments.{Env, Setting, with_value}
+use Rattle.policy_meaning.specs.Environments.{Env, Setting}
 use Rattle.policy_meaning.specs.Expressions.{Calls, Meaning, meaning}
-use Rattle.policy_meaning.specs.Finish.{Change, Listing}
-use Rattle.policy_meaning.specs.Outcomes.{Halt, Check, Fault, Stuck, Out, Done, Ends, ◌>>=◌, branch}
+use Rattle.policy_meaning.specs.Finish.{Listing}
+use Rattle.policy_meaning.specs.Outcomes.{Check, Out, Done, Ends, ◌>>=◌}
 use Rattle.policy_meaning.specs.Statements.{Flow, Goes, Returns, Finishes, Ran, Run, arm_run, block as run_block, checked, else_run, ran, run, run_layer, then, within}
 use Rattle.policy_meaning.specs.Values.{truth}
 use Rattle.policy_rules.proofs.StatementMaps.{map_arm, map_else}
@@ -31,7 +28,6 @@ use Rattle.policy_rules.specs.Scopes.{Scope, with_name}
 use Rattle.policy_rules.specs.Statements as rules
 use Rattle.policy_rules.specs.Statements.{AreArms, IsBlock, IsElse, IsStmt, IsStmtByForm, always_returns, ends_in_return, else_returns, last_does, returns_layer, within_finish}
 use Rattle.policy_rules.specs.Shapes.{shapes_of}
-use Rattle.policy_rules.specs.Types.{fits}
 use Rattle.policy_rules.specs.WellTyped.{IsWellTypedAt}
 use Rattle.policy_rules.specs.declared.context.Block.TheVariants as block
 use Rattle.policy_rules.specs.declared.context.Context.{Context}

@@ -1,6 +1,6 @@
 -- Typed changes leave typed facts and have typed effects.
-use Rattle.std.proofs.Common.{◌≡◌, ◌==◌, ℕ, Bool, true, false, cond, not, ◌&&◌, List, [], ◌∷◌, ◌++◌, map, slice_get, Option, Some, None, option_map, unwrap_or, refl, sym, ap, subst, ◌∙◌}
-use Rattle.std.specs.Prelude.{Result, Ok, Err}
+use Rattle.std.proofs.Common.{◌≡◌, ◌==◌, ℕ, Bool, true, false, cond, not, ◌&&◌, List, [], ◌∷◌, map, slice_get, Option, Some, None, option_map, unwrap_or, refl, sym, ap, ◌∙◌}
+use Rattle.std.specs.Prelude.{Ok, Err}
 use Rattle.std.proofs.lemmas.Bool.{eqb-true, false≢true}
 use Rattle.std.proofs.lemmas.List.Folds.{list_all-append}
 use Rattle.std.specs.List.{filter, list_all, list_any}
@@ -12,16 +12,15 @@ use Rattle.fact_store.specs.Sameness.{same_values}
 use Rattle.fact_store.specs.Writes.{Outcome, created, deleted, is_other, is_there, revalued, updated, with_row}
 use Rattle.fact_store.specs.declared.row.Row.{Row}
 use Rattle.fact_store.specs.declared.wanted.Wanted.{Wanted}
-use Rattle.fact_store.specs.declared.write_fault.WriteFault.{WriteFault}
 use Rattle.fact_store.specs.declared.write_fault.WriteFault.TheVariants as write_fault
 use Rattle.policy_ast.specs.declared.item.Item.{Item}
 use Rattle.policy_ast.specs.declared.item.Item.TheVariants as item
-use Rattle.policy_meaning.specs.Applying.{Ended, Passes, Checks, Faults, Sticks, applied, with_effect, write_ended, written}
+use Rattle.policy_meaning.specs.Applying.{Ended, Passes, Checks, Faults, Sticks, applied, with_effect, written}
 use Rattle.policy_meaning.specs.Finish.{Change, Create, Update, Delete, Emit}
 use Rattle.policy_meaning.specs.Typed.{are_fields_of, holds_at, is_effect_of, is_row_of, is_typed_row}
 use Rattle.policy_meaning.specs.declared.effect.Effect.{Effect}
 use Rattle.policy_types.proofs.Rows.{AreRows}
-use Rattle.policy_types.specs.Listed.{AreTypedChanges, IsTypedChange, are_values_of}
+use Rattle.policy_types.specs.Listed.{AreTypedChanges, are_values_of}
 
 pub all_filter : {A : Type 0} (p test : A → Bool) (xs : List A) → list_all p xs ≡ true → list_all p (filter test xs) ≡ true
 all_filter p test [] all = refl

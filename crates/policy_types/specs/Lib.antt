@@ -5,3 +5,4 @@ pub mod Asked
 pub mod Listed
 pub mod EndsWell
 pub mod ActsWell
+pub mod NeverStuck
