@@ -16,3 +16,4 @@ pub mod Writes
 pub mod Blocks
 pub mod Actions
 pub mod PolicyLaws
+pub mod Resolving

@@ -169,7 +169,7 @@ module _ (items : List Item) where
 
   -- ---- literals and names
 
-  variant_is : (n ordinal : ℕ) (i : Item) (all : List Name) → variants i ≡ Some all → are_variants all ≡ true → ordinal < length all → is_variant ordinal (shape_of items i) ≡ true
+  pub variant_is : (n ordinal : ℕ) (i : Item) (all : List Name) → variants i ≡ Some all → are_variants all ≡ true → ordinal < length all → is_variant ordinal (shape_of items i) ≡ true
   variant_is n ordinal (item.Enum name own) all has are lt =
       let few : nat_le (length all) 1024 ≡ true = and_then (nat_le 1 (length all) && nat_le (length all) 1024) (are_distinct all) are (λ both apart. and_then (nat_le 1 (length all)) (nat_le (length all) 1024) both (λ one few. few)) in
       let bound : length all ≤ 1024 = leb-true (length all) 1024 few in

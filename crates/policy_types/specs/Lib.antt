@@ -6,3 +6,4 @@ pub mod Listed
 pub mod EndsWell
 pub mod ActsWell
 pub mod NeverStuck
+pub mod Resolved

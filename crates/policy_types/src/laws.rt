@@ -7,6 +7,7 @@ ghost use Rattle.policy_meaning.specs.declared.call.Call.{Call};
 ghost use Rattle.policy_rules.specs.WellTyped.{IsWellTyped};
 ghost use Rattle.policy_types.specs.Fitting.{IsId};
 ghost use Rattle.policy_types.specs.NeverStuck.{ActionsGoWell, BlocksEndWell, ExpressionsGive, FinishLists, FunctionsGive, PatternsAsk};
+ghost use Rattle.policy_types.specs.Resolved.{ResolvesTyped};
 
 /// An expression of a well-typed policy gives a value of its type, or a check fails, or there is a fault. A pattern asks for rows of its fact by key
 /// values, or ends so.
@@ -36,4 +37,9 @@ pub fn blocks_are_never_stuck()
 pub fn actions_are_never_stuck()
     ensures { (policy : List PlacedItem) (action : ℕ) (arguments : List Value) (device : List ℕ) (rows : List Row) → IsWellTyped policy → IsActionOf policy action arguments → IsId device
         → AreTyped policy rows → ActionsGoWell policy action arguments device rows }
+{}
+
+/// What an argument resolves to at a type of a well-typed policy is of that type.
+pub fn resolved_arguments_are_typed()
+    ensures { (policy : List PlacedItem) → IsWellTyped policy → ResolvesTyped policy }
 {}
