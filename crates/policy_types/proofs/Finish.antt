@@ -44,7 +44,7 @@ use Rattle.policy_types.proofs.Fields.{arguments_are, in_any_order_given, keys_a
 use Rattle.policy_types.proofs.Functions.{keeps_called, nothing_asked}
 use Rattle.policy_types.proofs.Giving.{gives_then, there_gives, turn_gives}
 use Rattle.policy_types.proofs.Layouts.{bound_calls, gaps_bound, gaps_in}
-use Rattle.policy_types.proofs.Rows.{AreRows, are_fields_from, are_key_values, row_typed}
+use Rattle.policy_types.proofs.Rows.{AreRows, are_fields_from, are_key_values, keyed, row_typed}
 use Rattle.policy_types.proofs.Standing.{FactStands, HasFields, StructStands, fact_fields_of, fact_standing, fact_values_distinct, kind_at, standing, struct_standing, struct_value_is}
 use Rattle.policy_types.specs.Asked.{AsksFor}
 use Rattle.policy_types.specs.Endings.{Gives}
@@ -122,7 +122,8 @@ module _ (items : List Item) (well : (n : ℕ) → IsWellTypedAt items n) where
   create_has name fact is keys are given ordered in_their_order are_too =
       let s : FactStands items name fact = fact_standing items name fact is in
       let row : Row = record { fact = s.number; keys = keys; values = ordered } in
-      (Create row, rw (s.numbered, is, in_their_order) refl, (row_typed items name fact s row (record { of = refl; keys = are; values = are_too }), keys_of_fact name fact s keys are))
+      let simple : are_keys keys ≡ true = keys_of_fact name fact s keys are in
+      (Create row, rw (s.numbered, is, in_their_order) (keyed keys (Create row) simple), (row_typed items name fact s row (record { of = refl; keys = are; values = are_too }), simple))
 
   update_has : (name : Name) (fact : FactHead) → fact_named items name ≡ Some fact → (old : Wanted) → AsksFor items name old → (given : Env) (ordered : List Value)
       → fact_values fact given ≡ Some ordered → AreOf items (types_of fact.values) ordered → HasChange (update_of items name old given)
@@ -141,7 +142,8 @@ module _ (items : List Item) (well : (n : ℕ) → IsWellTypedAt items n) where
   delete_has : (name : Name) (fact : FactHead) → fact_named items name ≡ Some fact → (keys : List Value) → AreOf items (types_of fact.keys) keys → HasChange (delete_of items name keys)
   delete_has name fact is keys are =
       let s : FactStands items name fact = fact_standing items name fact is in
-      (Delete s.number keys, rw s.numbered refl, keys_of_fact name fact s keys are)
+      let simple : are_keys keys ≡ true = keys_of_fact name fact s keys are in
+      (Delete s.number keys, rw s.numbered (keyed keys (Delete s.number keys) simple), simple)
 
   module _ (rows : List Row) (typed : AreRows items rows) (context : Context) (setting : Setting) (suits : Suits items context setting) (may : Callee → Name → Bool) (call : Calls)
       (keeps : Keeps items may call) (may_finish : Callee → Name → Bool) (finish_call : FinishCalls) (keeps_finish : ListsCalled items may_finish finish_call) where

@@ -23,7 +23,7 @@ use Rattle.policy_ast.specs.declared.field.FieldType.TheOpen.{FieldType-F}
 use Rattle.policy_ast.specs.declared.item.Item.{Item}
 use Rattle.policy_ast.specs.declared.item.Item.TheVariants as item
 use Rattle.policy_meaning.proofs.FieldTypes.{of_form, typed_by_form}
-use Rattle.policy_meaning.specs.Patterns.{before_gap, named_values, row_value, wanted_of}
+use Rattle.policy_meaning.specs.Patterns.{before_gap, by_keys, named_values, row_value, wanted_of}
 use Rattle.policy_meaning.specs.Typed.{are_fields_of, is_row_of, is_typed_row}
 use Rattle.policy_meaning.specs.Environments.{value_in}
 use Rattle.policy_meaning.specs.Values.{optional_of}
@@ -45,6 +45,10 @@ use Rattle.policy_types.proofs.Standing.{FactStands, StructStands, fact_fields_o
 use Rattle.policy_types.proofs.Values.{is_nothing, is_something}
 use Rattle.policy_types.specs.Asked.{AsksFor}
 use Rattle.policy_types.specs.Fitting.{AreOf, IsOf, types_of}
+
+-- values that are key values
+pub keyed : {A : Type 0} (keys : List Value) (x : A) → are_keys keys ≡ true → by_keys keys x ≡ Some x
+keyed keys x are = ap (λ b. cond b (Some x) None) are
 
 types_both : (fields more : List Named) → types_of (fields ++ more) ≡ types_of fields ++ types_of more
 types_both [] more = refl
@@ -219,11 +223,7 @@ module _ (items : List Item) where
         → Asked name (wanted_of items name key_values value_names values)
     pattern_asks name fact is key_names keys leads key_values are value_names values =
         let s : FactStands items name fact = fact_standing items name fact is in
-        record {
-          wanted = record { fact = s.number; keys = before_gap key_values; values = map (value_in (named_values value_names values)) (names_in fact.values) };
-          is = rw (s.numbered, is) refl;
-          asks = record {
-            numbered = s.numbered;
-            keys = leading_keys s.keys (fact_fields_of items well name fact s).are_keys key_names keys (subst (λ fields. are_leading_keys fields key_names keys ≡ true) (sym s.declares_keys) leads) key_values are;
-          };
-        }
+        let simple : are_keys (before_gap key_values) ≡ true =
+        leading_keys s.keys (fact_fields_of items well name fact s).are_keys key_names keys (subst (λ fields. are_leading_keys fields key_names keys ≡ true) (sym s.declares_keys) leads) key_values are in
+        let wanted : Wanted = record { fact = s.number; keys = before_gap key_values; values = map (value_in (named_values value_names values)) (names_in fact.values) } in
+        record { wanted = wanted; is = rw (s.numbered, is) (keyed (before_gap key_values) wanted simple); asks = record { numbered = s.numbered; keys = simple } }
