@@ -6,5 +6,7 @@ pub mod Positions
 pub mod TypedFacts
 pub mod CallFacts
 pub mod DeclaredFacts
+pub mod NumberFacts
+pub mod ArgumentFacts
 pub mod EvaluationRows
 pub mod ValueRows

@@ -15,3 +15,4 @@ pub mod Actions
 pub mod Desks
 pub mod Commands
 pub mod Resolving
+pub mod working
