@@ -8,6 +8,7 @@ mod desk;
 mod effect;
 mod ends;
 mod given;
+pub mod laws;
 mod names;
 mod plain;
 mod resolving;

@@ -1,6 +1,7 @@
 use Rattle.std.proofs.Common.{Some, None, subst, option_and_then, ap, sym, ◌∙◌}
 use Rattle.base_bytes.specs.declared.ty.Ty.TheVariants as ty
-use Rattle.policy_meaning.specs.Commands.{Content, command_number, fields_of, read_value}
+use Rattle.policy_meaning.specs.Commands.{Content, command_number}
+use Rattle.policy_meaning.specs.working.Payloads.{fields_of, read_value}
 use Rattle.policy_meaning.proofs.CallFacts.{call_found}
 use Rattle.policy_meaning.proofs.DeclaredFacts.{AreFields, command_is_declared}
 use Rattle.policy_rules.specs.WellTyped.{items_of}
