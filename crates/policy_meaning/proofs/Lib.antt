@@ -10,4 +10,5 @@ pub mod DeclaredFacts
 pub mod NumberFacts
 pub mod ArgumentFacts
 pub mod EvaluationRows
+pub mod OrderRows
 pub mod ValueRows
