@@ -1,0 +1,8 @@
+-- Lemmas behind the contracts.
+pub mod RunFacts
+pub mod BatchFacts
+pub mod PlacedFacts
+pub mod SoundFacts
+pub mod FinalFacts
+pub mod Appended
+mod RunRows

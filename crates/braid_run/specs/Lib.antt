@@ -1,0 +1,9 @@
+-- The definitions that the contracts of this crate cite, in the order in which they are read.
+pub mod EntryLists
+pub mod Runs
+pub mod RunOf
+pub mod Places
+pub mod States
+pub mod Soundness
+pub mod Batches
+pub mod Laws
