@@ -5,4 +5,5 @@ pub mod PlacedFacts
 pub mod SoundFacts
 pub mod FinalFacts
 pub mod Appended
+pub mod PublishedFacts
 mod RunRows

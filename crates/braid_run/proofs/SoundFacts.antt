@@ -9,23 +9,26 @@ use Rattle.braid_run.specs.States.{Held, IsStanding, extended}
 use Rattle.braid_run.specs.declared.entry.Entry.{Entry}
 use Rattle.braid_run.proofs.BatchFacts.{entries_on}
 use Rattle.braid_run.proofs.PlacedFacts.{place_before}
-use Rattle.command.specs.Closed.{IsClosed}
+use Rattle.command.specs.Closed.{IsClosed, IsHeld}
+use Rattle.command.specs.Kinds.{parents_of}
 use Rattle.command.specs.declared.command.Command.{Command}
 use Rattle.command.proofs.ClosedFacts.{parents_held}
 use Rattle.fact_store.specs.declared.row.Row.{Row}
 
-lawful_on : (terms : Terms) (cs more : List Command) (c : Command) → IsClosed cs → IsClosed (cs ++ more) → Contains cs c → IsLawful terms cs c → IsLawful terms (cs ++ more) c
-lawful_on terms cs more c closed longer inside lawful = record {
+-- a command whose parents are held stays lawful behind an append
+pub lawful_on : (terms : Terms) (cs more : List Command) (c : Command) → IsClosed (cs ++ more) → ((id : List ℕ) → Contains (parents_of c) id → IsHeld cs id) → IsLawful terms cs c →
+    IsLawful terms (cs ++ more) c
+lawful_on terms cs more c longer held lawful = record {
   digest = lawful.digest;
   tag = lawful.tag;
   kind = lawful.kind;
-  passes = λ rows at. lawful.passes rows (place_before cs more longer c (λ id link. parents_held cs closed c id inside link) terms.policy rows at);
+  passes = λ rows at. lawful.passes rows (place_before cs more longer c held terms.policy rows at);
 }
 
 pub all_lawful : (terms : Terms) (cs more : List Command) → IsClosed cs → IsClosed (cs ++ more) → AreLawful terms cs cs → AreLawful terms (cs ++ more) more → AreLawful terms (cs ++ more) (cs ++ more)
 all_lawful terms cs more closed longer old new c inside plain =
     elim (Contains-append_cases cs more c inside) [
-      | inl older ↦ lawful_on terms cs more c closed longer older (old c older plain)
+      | inl older ↦ lawful_on terms cs more c longer (λ id link. parents_held cs closed c id older link) (old c older plain)
       | inr newer ↦ new c newer plain
     ]
 

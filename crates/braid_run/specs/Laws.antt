@@ -1,10 +1,12 @@
 -- What the laws say.
-use Rattle.std.specs.Prelude.{◌≡◌, ◌↔◌, List, ◌++◌, length, take}
+use Rattle.std.specs.Prelude.{◌≡◌, ℕ, ◌↔◌, List, [], ◌∷◌, ◌++◌, length, take}
 use Rattle.braid.specs.Braids.{IsBraid, IsBraidOf, IsBraidTo, IsBraidUnder}
 use Rattle.braid_run.specs.Places.{AreAtPlace, IsBehind, parent_places}
+use Rattle.braid_run.specs.Published.{IsBehindAll, IsTopped}
 use Rattle.braid_run.specs.RunOf.{IsRunOf}
 use Rattle.braid_run.specs.Runs.{run_of, run_on}
 use Rattle.braid_run.specs.declared.entry.Entry.{Entry}
+use Rattle.command.specs.Ancestors.{IsAt, heads}
 use Rattle.command.specs.Closed.{IsClosed}
 use Rattle.command.specs.declared.command.Command.{Command}
 use Rattle.fact_store.specs.declared.row.Row.{Row}
@@ -43,3 +45,8 @@ pub record HasPlace (policy : List PlacedItem) (cs : List Command) (c : Command)
 -- An append leaves the facts at its place.
 abbrev pub PlaceStays : List PlacedItem → List Command → Command → Type 0
 PlaceStays policy cs c = (more : List Command) (rows : List Row) → IsClosed (cs ++ more) → AreAtPlace policy cs c rows ↔ AreAtPlace policy (cs ++ more) c rows
+
+-- One head stands above all that is held, and a command behind all that is held is the next such.
+pub record HasTip (cs : List Command) : Type 0 where
+  pub head : (place : ℕ) (tip : Command) → heads cs ≡ place ∷ [] → IsAt cs place tip → IsTopped cs tip
+  pub next : (c : Command) → IsClosed (cs ++ c ∷ []) → IsBehindAll cs c → IsTopped (cs ++ c ∷ []) c

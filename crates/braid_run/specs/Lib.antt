@@ -6,4 +6,5 @@ pub mod Places
 pub mod States
 pub mod Soundness
 pub mod Batches
+pub mod Published
 pub mod Laws

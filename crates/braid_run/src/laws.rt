@@ -1,12 +1,14 @@
 //! The laws of runs, over the definitions alone. These functions do nothing; their contracts are the laws.
 
-ghost use Rattle.std.specs.Prelude.{◌≡◌, true, List, ◌++◌, ℕ};
+ghost use Rattle.std.specs.Prelude.{◌≡◌, ℕ, true, List, [], ◌++◌, length};
 ghost use Rattle.std.specs.List.{Contains};
 ghost use Rattle.braid.specs.Agreeing.{Agree};
 ghost use Rattle.braid_run.specs.Batches.{AreChanges, Change, all_followed, commands_behind};
-ghost use Rattle.braid_run.specs.Laws.{HasOneRun, HasPlace, HaveOneRun, PlaceStays, StaysFinal};
-ghost use Rattle.braid_run.specs.RunOf.{AreEntriesOf};
-ghost use Rattle.braid_run.specs.Soundness.{GoesOn, IsSound, Terms};
+ghost use Rattle.braid_run.specs.Laws.{HasOneRun, HasPlace, HasTip, HaveOneRun, PlaceStays, StaysFinal};
+ghost use Rattle.braid_run.specs.Places.{AreAtPlace};
+ghost use Rattle.braid_run.specs.Published.{ArePublished, IsBehindAll, gone_on};
+ghost use Rattle.braid_run.specs.RunOf.{AreEntriesOf, IsRunOf};
+ghost use Rattle.braid_run.specs.Soundness.{AreLawful, GoesOn, IsLawful, IsSound, Terms};
 ghost use Rattle.braid_run.specs.States.{Held, IsStanding, extended};
 ghost use Rattle.braid_run.specs.declared.entry.Entry.{Entry};
 ghost use Rattle.command.specs.Ancestors.{AreInLine};
@@ -48,8 +50,24 @@ pub fn commands_have_places()
         → PlaceStays policy commands command }
 {}
 
-/// A sound state stays sound where lawful commands are added with the entries and the facts of the new run.
+/// A sound state stays sound where lawful commands are added with the entries and the facts of the new run. A command that is lawful where it stands
+/// stays so.
 pub fn extensions_stay_sound()
-    ensures { (terms : Terms) (held : Held) (more : List Command) (cut : ℕ) (rows : List Row) (entries : List Entry) → IsStanding held.graph_id (held.commands ++ more)
+    ensures lawful { (terms : Terms) (commands more : List Command) (command : Command) → IsClosed (commands ++ more)
+        → ((id : List ℕ) → Contains (parents_of command) id → IsHeld commands id) → IsLawful terms commands command → IsLawful terms (commands ++ more) command }
+    ensures state { (terms : Terms) (held : Held) (more : List Command) (cut : ℕ) (rows : List Row) (entries : List Entry) → IsStanding held.graph_id (held.commands ++ more)
         → IsSound terms held → GoesOn terms held.commands more cut rows entries → IsSound terms (extended held more cut rows entries) }
+{}
+
+/// Commands that are published run last: the run of all goes on from the facts and the entries held, and merges change nothing. Each is published
+/// over the facts at its place, which are the facts held by then. So lawful ones keep a sound state sound, with all its entries as they are.
+pub fn published_commands_run_last()
+    ensures run { (policy : List PlacedItem) (commands more : List Command) (rows : List Row) (entries : List Entry) → IsClosed (commands ++ more) → ArePublished commands more
+        → IsRunOf policy commands rows entries → IsRunOf policy (commands ++ more) (gone_on policy rows entries more).rows (gone_on policy rows entries more).entries }
+    ensures place { (policy : List PlacedItem) (commands : List Command) (command : Command) (rows others : List Row) (entries : List Entry) → IsClosed commands
+        → IsBehindAll commands command → IsRunOf policy commands rows entries → AreAtPlace policy commands command others → others ≡ rows }
+    ensures sound { (terms : Terms) (held : Held) (more : List Command) → IsClosed (held.commands ++ more) → ArePublished held.commands more → IsSound terms held
+        → AreLawful terms (held.commands ++ more) more
+        → GoesOn terms held.commands more (length held.entries) (gone_on terms.policy held.rows [] more).rows (gone_on terms.policy held.rows [] more).entries }
+    ensures tip { (commands : List Command) → IsClosed commands → HasTip commands }
 {}

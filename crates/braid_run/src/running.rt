@@ -1,4 +1,4 @@
-ghost use Rattle.std.specs.Prelude.{◌≡◌, ◌<◌, ◌+◌, List, length, IfOk, OnOk, Some};
+ghost use Rattle.std.specs.Prelude.{◌≡◌, ◌<◌, ◌+◌, ◌≤◌, List, length, IfOk, OnOk, Some};
 ghost use Rattle.std.specs.List.{All};
 ghost use Rattle.base_bytes.specs.Reaching.{NoneReachesItself};
 ghost use Rattle.braid.specs.Braids.{picked};
@@ -88,6 +88,7 @@ fn run_call<R: Runner, F: FactBase, L: Ledger>(
     ensures typed { OnOk result (AreTyped (R.rules runner.now) (F.rows facts.new)) }
     ensures effects { IfOk result (λ entry. AreEffectsOf (R.rules runner.now) entry.effects) }
     ensures ticks { OnOk result (steps.new ≡ steps.old + call_ticks (R.rules runner.now) (F.rows facts.old) (Some call.now)) }
+    ensures later { steps.old ≤ steps.new }
 {
     match runner.run_command(alloc, call, facts, steps)? {
         Verdict::Pass(effects) => Ok(entry(id, Outcome::Pass, effects)),
@@ -115,6 +116,7 @@ fn run_command<R: Runner, F: FactBase, L: Ledger>(
     ensures typed { OnOk result (AreTyped (R.rules runner.now) (F.rows facts.new)) }
     ensures effects { IfOk result (λ entry. AreEffectsOf (R.rules runner.now) entry.effects) }
     ensures ticks { OnOk result (steps.new ≡ steps.old + call_ticks (R.rules runner.now) (F.rows facts.old) (call_of (R.rules runner.now) command.now)) }
+    ensures later { steps.old ≤ steps.new }
 {
     match call_of(alloc, runner.policy(), shapes, command)? {
         Some(call) => run_call(alloc, runner, id, &call, facts, steps),
@@ -146,6 +148,7 @@ fn run_places<R: Runner, G: Graph, F: FactBase, L: Ledger>(
     ensures runs { IfOk result (λ ran. Comes (R.rules runner.now) (picked (G.commands graph.now) places.now) (F.rows ran.facts) ran.entries.all steps.old steps.new) }
     ensures typed { IfOk result (λ ran. AreTyped (R.rules runner.now) (F.rows ran.facts)) }
     ensures effects { IfOk result (λ ran. All (λ entry. AreEffectsOf (R.rules runner.now) entry.effects) ran.entries.all) }
+    ensures later { steps.old ≤ steps.new }
 {
     let mut facts = F::empty(alloc);
     let mut entries = Entries::new(alloc);
@@ -159,7 +162,7 @@ fn run_places<R: Runner, G: Graph, F: FactBase, L: Ledger>(
 }
 
 /// Runs the braid of the tips' closure by the runner's policy, from no facts. The answer has the facts, and the entries in the order of the braid;
-/// the counter rises by the blocks that were run. Each command is run once. Running out of memory is the only error; the counter may have risen then.
+/// the counter rises by the blocks that were run. Each command is run once. Running out of memory is the only error, and the counter may have risen by then.
 pub fn run_all<R: Runner, G: Graph, F: FactBase, L: Ledger>(
     alloc: Global,
     runner: &R,
@@ -171,6 +174,7 @@ pub fn run_all<R: Runner, G: Graph, F: FactBase, L: Ledger>(
     ensures runs { IfOk result (λ ran. IsRunUnder (R.rules runner.now) (G.commands graph.now) tips.now (F.rows ran.facts) ran.entries.all steps.old steps.new) }
     ensures typed { IfOk result (λ ran. AreTyped (R.rules runner.now) (F.rows ran.facts)) }
     ensures effects { IfOk result (λ ran. All (λ entry. AreEffectsOf (R.rules runner.now) entry.effects) ran.entries.all) }
+    ensures later { steps.old ≤ steps.new }
 {
     let policy = runner.policy();
     structs_are_finite();

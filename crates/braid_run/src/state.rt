@@ -109,7 +109,7 @@ impl<G: Graph, F: FactBase> State<G, F> {
     /// Names the graph, which has no id yet, and so no commands. Takes no memory.
     pub fn name_graph(&mut self, id: Id)
         requires unnamed { self.old.held.graph_id ≡ None }
-        ensures held { self.new.held ≡ record self.old.held { graph_id = Some id } }
+        ensures named { self.new ≡ record self.old { held = record self.old.held { graph_id = Some id } } }
         ensures empty { self.old.held.commands ≡ [] }
     {
         self.id = Some(id);

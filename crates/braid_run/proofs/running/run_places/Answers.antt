@@ -10,6 +10,7 @@ loop-place-init g c = record {
   goes_on = rw (c.empty-facts.ensures, c.new-entries.ensures) refl;
   typed = subst (λ rows. AreTyped (g.R.Runner.rules c.args.runner.now) rows) (sym c.empty-facts.ensures) (typed_none (g.R.Runner.rules c.args.runner.now));
   effects = subst (λ entries. All (λ entry. AreEffectsOf (g.R.Runner.rules c.args.runner.now) entry.effects) entries) (sym c.new-entries.ensures) (λ k d within. absurd (omega (arith, within)));
+  later = omega arith;
 }
 
 pub loop-place-preserved : goal.loop-place-preserved
@@ -21,6 +22,7 @@ loop-place-preserved g c = record {
       c.loop-place.invariant.goes_on;
   typed = search rules;
   effects = all_more (λ entry. AreEffectsOf (g.R.Runner.rules c.args.runner.now) entry.effects) c.loop-place.entries.all c.push.new.self.all c.in_ok-entry.entry (search rules) c.loop-place.invariant.effects (search rules);
+  later = let rises = c.run_command.ensures.later in let so_far = c.loop-place.invariant.later in omega (arith, rises, so_far);
 }
 
 pub returns-clause-runs : goal.returns-clause-runs

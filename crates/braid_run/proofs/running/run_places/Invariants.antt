@@ -1,4 +1,4 @@
-use Rattle.std.specs.Prelude.{◌≡◌, [], drop}
+use Rattle.std.specs.Prelude.{◌≡◌, ◌≤◌, [], drop}
 use Rattle.std.specs.List.{All}
 use Rattle.braid.specs.Braids.{picked}
 use Rattle.braid_run.specs.Runs.{run_on}
@@ -13,4 +13,5 @@ invariant-loop-place g l = record {
       ≡ run_on (g.R.Runner.rules l.runner) (record { rows = []; entries = []; ticks = l.fn.steps }) (picked (g.G.Graph.commands l.graph) l.places);
   typed : AreTyped (g.R.Runner.rules l.runner) (g.F.FactBase.rows l.facts);
   effects : All (λ entry. AreEffectsOf (g.R.Runner.rules l.runner) entry.effects) l.entries.all;
+  later : l.fn.steps ≤ l.steps;
 }
