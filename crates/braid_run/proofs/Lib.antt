@@ -5,5 +5,6 @@ pub mod PlacedFacts
 pub mod SoundFacts
 pub mod FinalFacts
 pub mod Appended
+pub mod StandingFacts
 pub mod PublishedFacts
 mod RunRows

@@ -18,6 +18,7 @@ use Rattle.braid_run.specs.Soundness.{AreLawful, GoesOn, IsSound, Terms}
 use Rattle.braid_run.specs.States.{Held}
 use Rattle.braid_run.specs.declared.entry.Entry.{Entry}
 use Rattle.braid_run.proofs.RunFacts.{raised, run_append, run_grows, run_raised}
+use Rattle.braid_run.proofs.StandingFacts.{behind_above}
 use Rattle.command.specs.Ancestors.{Ancestor, IsAt, IsParent, IsUnder, IsUpTo, heads, is_parent, places_without}
 use Rattle.command.specs.Ancestors.Ancestor.{Parent, Further}
 use Rattle.command.specs.Closed.{IsClosed, IsNext}
@@ -78,12 +79,7 @@ module _ (cs : List Command) (c : Command) (closed : IsClosed (cs ++ c ∷ [])) 
 
   -- what is held stands above a command behind all of it
   pub all_above : IsBehindAll cs c → (x : Command) → Contains cs x → Ancestor (cs ++ c ∷ []) x c
-  all_above behind x inside =
-      let parent : IsParent (cs ++ c ∷ []) behind.0 c = record { older = Contains-append_left cs (c ∷ []) behind.0 behind.1; newer = Contains-push cs c; link = behind.2 } in
-      elim (behind.3 x inside) [
-        | inl same ↦ Parent (subst (λ z. IsParent (cs ++ c ∷ []) z c) (sym same) parent)
-        | inr above ↦ Further (kept cs (c ∷ []) x behind.0 above) parent
-      ]
+  all_above behind x inside = behind_above cs c x (behind.0, behind.1, behind.2, behind.3 x inside)
 
   -- and it is the next tip
   pub topped_next : IsBehindAll cs c → IsTopped (cs ++ c ∷ []) c

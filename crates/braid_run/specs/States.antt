@@ -1,10 +1,11 @@
 -- What a state holds, what is true of every state, and what it holds after commands are added.
-use Rattle.std.specs.Prelude.{◌≡◌, ℕ, ◌≤◌, true, false, List, [], ◌∷◌, ◌++◌, length, take, Option, Some}
-use Rattle.std.specs.List.{All}
+use Rattle.std.specs.Prelude.{◌≡◌, ℕ, ◌<◌, ◌≤◌, true, false, List, [], ◌∷◌, ◌++◌, length, take, Option, Some}
+use Rattle.std.specs.List.{All, Contains}
+use Rattle.braid_run.specs.Places.{IsBehind}
 use Rattle.braid_run.specs.declared.entry.Entry.{Entry}
 use Rattle.command.specs.Ancestors.{AreInLine}
-use Rattle.command.specs.Closed.{IsClosed, max_commands}
-use Rattle.command.specs.Kinds.{is_init}
+use Rattle.command.specs.Closed.{IsClosed, IsNext, max_commands}
+use Rattle.command.specs.Kinds.{is_finalize, is_init}
 use Rattle.command.specs.Wire.{command_id}
 use Rattle.command.specs.declared.command.Command.{Command}
 use Rattle.fact_store.specs.declared.row.Row.{Row}
@@ -42,3 +43,11 @@ extended held more cut rows entries = record {
   rows = rows;
   entries = take cut held.entries ++ entries;
 }
+
+-- A command may be added: it may stand behind the others and there is room, an init is the first and has the graph's id, and a finalize stands behind
+-- each one that is held.
+pub record MayFollow (graph_id : Option (List ℕ)) (cs : List Command) (c : Command) : Type 0 where
+  pub next : IsNext cs c
+  pub few : length cs < max_commands
+  pub init : is_init c ≡ true → (cs ≡ []) × (graph_id ≡ Some (command_id c))
+  pub in_line : is_finalize c ≡ true → (f : Command) → Contains cs f → is_finalize f ≡ true → IsBehind cs c f

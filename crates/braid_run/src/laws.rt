@@ -1,6 +1,6 @@
 //! The laws of runs, over the definitions alone. These functions do nothing; their contracts are the laws.
 
-ghost use Rattle.std.specs.Prelude.{◌≡◌, ℕ, true, List, [], ◌++◌, length};
+ghost use Rattle.std.specs.Prelude.{◌≡◌, ℕ, true, List, [], ◌∷◌, ◌++◌, length, Option};
 ghost use Rattle.std.specs.List.{Contains};
 ghost use Rattle.braid.specs.Agreeing.{Agree};
 ghost use Rattle.braid_run.specs.Batches.{AreChanges, Change, all_followed, commands_behind};
@@ -9,7 +9,7 @@ ghost use Rattle.braid_run.specs.Places.{AreAtPlace};
 ghost use Rattle.braid_run.specs.Published.{ArePublished, IsBehindAll, gone_on};
 ghost use Rattle.braid_run.specs.RunOf.{AreEntriesOf, IsRunOf};
 ghost use Rattle.braid_run.specs.Soundness.{AreLawful, GoesOn, IsLawful, IsSound, Terms};
-ghost use Rattle.braid_run.specs.States.{Held, IsStanding, extended};
+ghost use Rattle.braid_run.specs.States.{Held, IsStanding, MayFollow, extended};
 ghost use Rattle.braid_run.specs.declared.entry.Entry.{Entry};
 ghost use Rattle.command.specs.Ancestors.{AreInLine};
 ghost use Rattle.command.specs.Closed.{IsClosed, IsHeld};
@@ -48,6 +48,12 @@ pub fn commands_have_places()
     ensures place { (policy : List PlacedItem) (commands : List Command) (command : Command) → IsClosed commands → HasPlace policy commands command }
     ensures stays { (policy : List PlacedItem) (commands : List Command) (command : Command) → ((id : List ℕ) → Contains (parents_of command) id → IsHeld commands id)
         → PlaceStays policy commands command }
+{}
+
+/// Where a command may be added to what stands, what is held then stands.
+pub fn additions_stand()
+    ensures { (graph_id : Option (List ℕ)) (commands : List Command) (command : Command) → IsStanding graph_id commands → MayFollow graph_id commands command
+        → IsStanding graph_id (commands ++ command ∷ []) }
 {}
 
 /// A sound state stays sound where lawful commands are added with the entries and the facts of the new run. A command that is lawful where it stands
