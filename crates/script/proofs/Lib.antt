@@ -1,0 +1,8 @@
+mod Options
+mod Runs
+mod Marks
+mod Lists
+mod TokenLaws
+mod Ends
+mod ArgumentFacts
+
