@@ -5,4 +5,6 @@ mod Lists
 mod TokenLaws
 mod Ends
 mod ArgumentFacts
+mod ArgumentLaws
+mod LineLaws
 
