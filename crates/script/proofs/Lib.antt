@@ -7,4 +7,5 @@ mod Ends
 mod ArgumentFacts
 mod ArgumentLaws
 mod LineLaws
+mod ScriptLaws
 
