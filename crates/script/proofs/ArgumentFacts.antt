@@ -12,9 +12,9 @@ use Rattle.script.specs.Arguments.{ArgumentOver, Field, Within}
 use Rattle.script.specs.Pieces.{Between, Behind, Bytes, Listed, Mark, Members, Run, begins_with}
 use Rattle.script.specs.Tokens.{Number, Word, author_of, bytes_of_hex, id_of_hex, int_of, is_replica_byte, passing}
 use Rattle.script.specs.working.Readers.{after, mark_at}
-use Rattle.script.proofs.Marks.{begins_more, front_shorter, mark_shorter, other_first}
+use Rattle.script.proofs.MarkLaws.{begins_more, front_shorter, mark_shorter, other_first}
 use Rattle.script.proofs.Options.{if_then, none_some}
-use Rattle.script.proofs.Runs.{says_begins, says_shorter, spaces_read, spaces_shorter}
+use Rattle.script.proofs.RunLaws.{says_begins, says_shorter, spaces_read, spaces_shorter}
 use Rattle.script.proofs.TokenLaws.{number_shorter, quoted_shorter}
 
 -- the bytes with which an argument may begin

@@ -12,14 +12,14 @@ use Rattle.script.specs.Arguments.{ArgumentOver, Field, Within}
 use Rattle.script.specs.Pieces.{Between, Behind, Bytes, Listed, Mark, Members, Run, Says, begins_with}
 use Rattle.script.specs.Tokens.{Number, Quoted, Word, author_of, bytes_of_hex, id_of_hex, int_of, is_replica_byte, passing}
 use Rattle.script.specs.working.Readers.{Reader, after, chosen, listed, mark_at, run_at, unspaced}
-use Rattle.script.specs.working.ReadingArguments.{argument_over, argument_within, behind_word, constant, field_at, making, plain_argument, some_from, worded_argument}
+use Rattle.script.specs.working.ReadingArguments.{argument_over, argument_within, behind_word, constant, field_at, ident_at, making, plain_argument, some_from, worded_argument}
 use Rattle.script.specs.working.ReadingTokens.{number_at, quoted_at, text_from, word_at}
 use Rattle.script.proofs.ArgumentFacts.{AreParts, IsPart, behind_opens, behind_shorter, field_shorter, is_first, within_parts, word_is, word_letter, word_part}
 use Rattle.script.proofs.Ends.{Ends, ends_at_mark, no_colon_before_end, no_mark_before_end, no_path_before_end, no_path_before_mark, number_no_hex, one_mark}
-use Rattle.script.proofs.Lists.{IsReadBefore, listed_finds, listed_reads}
-use Rattle.script.proofs.Marks.{after_finds, after_reads, begins_more, mark_finds, mark_reads, other_first, other_second}
+use Rattle.script.proofs.ListLaws.{IsReadBefore, listed_finds, listed_reads}
+use Rattle.script.proofs.MarkLaws.{after_finds, after_reads, begins_more, mark_finds, mark_reads, other_first, other_second}
 use Rattle.script.proofs.Options.{bind_then, chosen_then, either_then, if_then, map_then, none_some, same_some}
-use Rattle.script.proofs.Runs.{says_begins, says_finds, says_reads, spaces_found, spaces_read}
+use Rattle.script.proofs.RunLaws.{says_begins, says_finds, says_reads, spaces_found, spaces_read}
 use Rattle.script.proofs.TokenLaws.{behind_finds, behind_reads, number_finds, number_reads, quoted_finds, quoted_reads}
 
 -- what is written is read where an end follows
@@ -72,9 +72,11 @@ module _ (Below : Between Arg) (one : Reader Arg) where
 
     field_reads : (bytes rest : Bytes) (f : Bytes × Arg) → Field Below bytes rest f → Ends rest → field_at one bytes ≡ Some (f, rest)
     field_reads bytes rest f is ends =
-        rw (behind_reads Word word_at bytes is.behind f.0 (λ bytes w. word_reads bytes is.behind f.0 w) is.name,
-            mark_reads (codes ":") is.behind is.inner is.colon,
-            behind_reads Below one is.inner rest f.1 (λ bytes x. reads bytes rest f.1 x ends) is.value) refl
+        rw (
+          behind_reads Word word_at bytes is.behind f.0 (λ bytes w. word_reads bytes is.behind f.0 w) is.name,
+          mark_reads (codes ":") is.behind is.inner is.colon,
+          behind_reads Below one is.inner rest f.1 (λ bytes x. reads bytes rest f.1 x ends) is.value,
+        ) refl
 
     fields_are_read : IsReadBefore (codes "}") (Field Below) (field_at one) Ends
     fields_are_read = record {
@@ -161,7 +163,7 @@ module _ (Below : Between Arg) (one : Reader Arg) where
         subst (Found bytes) equal (ArgumentOver.some (subst (Word bytes mid) ((bytes_eq-Decides w (codes "Some")).0 same) word) opens (behind_finds Below inner a.1 a.0 (finds (unspaced inner) a reads)) (mark_finds (codes ")") a.1 rest closes)))))
         (λ other e. none_some e)
 
-    id_finds : (bytes mid w next : Bytes) (found : Arg × Bytes) → Word bytes mid w → mid ≡ codes ":" ++ next → (if bytes_eq w (codes "id") then making arg.Ident (run_at is_hex_digit id_of_hex next) else None) ≡ Some found → Found bytes found
+    id_finds : (bytes mid w next : Bytes) (found : Arg × Bytes) → Word bytes mid w → mid ≡ codes ":" ++ next → ident_at w next ≡ Some found → Found bytes found
     id_finds bytes mid w next found word colon is = either_then (bytes_eq w (codes "id")) (making arg.Ident (run_at is_hex_digit id_of_hex next)) None (Some found) is
         (λ same e. map_then (run_at is_hex_digit id_of_hex next) _ found e (λ id reads equal.
         subst (Found bytes) equal (ArgumentOver.id (word_and_colon bytes mid w next word colon ((bytes_eq-Decides w (codes "id")).0 same)) (says_finds is_hex_digit id_of_hex next id reads))))

@@ -7,8 +7,8 @@ use Rattle.std.proofs.lemmas.Bool.{and_parts}
 use Rattle.std.proofs.lemmas.List.Sums.{take_while-cons}
 use Rattle.script.specs.Pieces.{Bytes, Mark, Run, begins_with, is_space}
 use Rattle.script.specs.working.Readers.{after, mark_at, unspaced}
-use Rattle.script.proofs.Marks.{mark_reads, other_first, other_second}
-use Rattle.script.proofs.Runs.{spaces_read}
+use Rattle.script.proofs.MarkLaws.{mark_reads, other_first, other_second}
+use Rattle.script.proofs.RunLaws.{spaces_read}
 
 abbrev pub is_end : ℕ → Bool
 is_end c = c == byte "," || (c == byte ")" || c == byte "}")

@@ -1,11 +1,15 @@
 mod Options
-mod Runs
-mod Marks
-mod Lists
+mod RunLaws
+mod MarkLaws
+mod ListLaws
 mod TokenLaws
 mod Ends
 mod ArgumentFacts
 mod ArgumentLaws
 mod LineLaws
 mod ScriptLaws
-
+mod NameTexts
+mod Drops
+mod DigitRuns
+mod Turns
+mod NextLines

@@ -19,10 +19,10 @@ use Rattle.script.specs.working.ReadingTokens.{part_at, word_at}
 use Rattle.script.proofs.ArgumentFacts.{IsPart, behind_opens, behind_shorter, within_parts}
 use Rattle.script.proofs.ArgumentLaws.{within_finds, within_reads, word_finds, word_reads}
 use Rattle.script.proofs.Ends.{Ends, ends_at_mark, is_space_or, next_is}
-use Rattle.script.proofs.Lists.{IsReadBefore, listed_finds, listed_reads}
-use Rattle.script.proofs.Marks.{after_finds, after_reads, begins_more, mark_finds, mark_reads, other_first}
+use Rattle.script.proofs.ListLaws.{IsReadBefore, listed_finds, listed_reads}
+use Rattle.script.proofs.MarkLaws.{after_finds, after_reads, begins_more, mark_finds, mark_reads, other_first}
 use Rattle.script.proofs.Options.{bind_then, chosen_then, either_then, if_then, map_then, none_some, same_some}
-use Rattle.script.proofs.Runs.{says_begins, spaces_found, spaces_read}
+use Rattle.script.proofs.RunLaws.{says_begins, spaces_found, spaces_read}
 use Rattle.script.proofs.TokenLaws.{behind_finds, behind_reads, part_finds, part_reads}
 
 -- the arguments of a call
@@ -76,8 +76,13 @@ two_finds : (verb bytes behind : Bytes) (found : Bytes × Bytes) → Verb verb b
 unfolding two_names
 two_finds verb bytes behind found first is = bind_then (part_at replica_name behind) _ found is (λ p reads e. bind_then (part_at replica_name p.1) _ found e (λ q others e.
     ended_then ((p.0, q.0), q.1) found e (λ ends same. subst (λ (f : Bytes × Bytes). OfTwo verb bytes f.0 f.1) same (record {
-      behind_verb = behind; behind_name = p.1; rest = q.1; verb_first = first;
-      name = part_finds replica_name behind p reads; other = part_finds replica_name p.1 q others; ends = ends;
+      behind_verb = behind;
+      behind_name = p.1;
+      rest = q.1;
+      verb_first = first;
+      name = part_finds replica_name behind p reads;
+      other = part_finds replica_name p.1 q others;
+      ends = ends;
     }))))
 
 message_reads : (verb bytes a : Bytes) (n : ℕ) (is : OfMessage verb bytes a n) → name_and_number is.behind_verb ≡ Some (a, n)
@@ -89,17 +94,24 @@ message_finds : (verb bytes behind : Bytes) (found : Bytes × ℕ) → Verb verb
 unfolding name_and_number
 message_finds verb bytes behind found first is = bind_then (part_at replica_name behind) _ found is (λ p reads e. bind_then (part_at message_number p.1) _ found e (λ q others e.
     ended_then ((p.0, q.0), q.1) found e (λ ends same. subst (λ (f : Bytes × ℕ). OfMessage verb bytes f.0 f.1) same (record {
-      behind_verb = behind; behind_name = p.1; rest = q.1; verb_first = first;
-      name = part_finds replica_name behind p reads; number = part_finds message_number p.1 q others; ends = ends;
+      behind_verb = behind;
+      behind_name = p.1;
+      rest = q.1;
+      verb_first = first;
+      name = part_finds replica_name behind p reads;
+      number = part_finds message_number p.1 q others;
+      ends = ends;
     }))))
 
 call_reads : (verb bytes a f : Bytes) (args : List Arg) (is : OfCall verb bytes a f args) → name_and_call is.behind_verb ≡ Some (a, f, args)
 unfolding name_and_call
 call_reads verb bytes a f args is =
-    rw (part_reads replica_name is.behind_verb is.behind_name a is.name,
-        behind_reads Word word_at is.behind_name is.behind_action f (λ bytes w. word_reads bytes is.behind_action f w) is.action,
-        mark_reads (codes "(") is.behind_action is.inner is.opens,
-        arguments_read is.inner is.rest args is.arguments) (end_reads (a, f, args) is.rest is.ends)
+    rw (
+      part_reads replica_name is.behind_verb is.behind_name a is.name,
+      behind_reads Word word_at is.behind_name is.behind_action f (λ bytes w. word_reads bytes is.behind_action f w) is.action,
+      mark_reads (codes "(") is.behind_action is.inner is.opens,
+      arguments_read is.inner is.rest args is.arguments,
+    ) (end_reads (a, f, args) is.rest is.ends)
 
 call_finds : (verb bytes behind : Bytes) (found : Bytes × Bytes × List Arg) → Verb verb bytes behind → name_and_call behind ≡ Some found → OfCall verb bytes found.0 found.1 found.2
 unfolding name_and_call
@@ -108,9 +120,17 @@ call_finds verb bytes behind found first is = bind_then (part_at replica_name be
     bind_then (mark_at (codes "(") f.1) _ found e (λ inner opens e.
     bind_then (arguments_at inner) _ found e (λ args more e.
     ended_then ((p.0, f.0, args.0), args.1) found e (λ ends same. subst (λ (c : Bytes × Bytes × List Arg). OfCall verb bytes c.0 c.1 c.2) same (record {
-      behind_verb = behind; behind_name = p.1; behind_action = f.1; inner = inner; rest = args.1; verb_first = first;
-      name = part_finds replica_name behind p reads; action = behind_finds Word p.1 f.1 f.0 (word_finds (unspaced p.1) f names);
-      opens = mark_finds (codes "(") f.1 inner opens; arguments = arguments_find inner args more; ends = ends;
+      behind_verb = behind;
+      behind_name = p.1;
+      behind_action = f.1;
+      inner = inner;
+      rest = args.1;
+      verb_first = first;
+      name = part_finds replica_name behind p reads;
+      action = behind_finds Word p.1 f.1 f.0 (word_finds (unspaced p.1) f names);
+      opens = mark_finds (codes "(") f.1 inner opens;
+      arguments = arguments_find inner args more;
+      ends = ends;
     }))))))
 
 hex_reads : (bytes message : Bytes) (is : OfHex bytes message) → hex_alone is.behind_verb ≡ Some message
@@ -174,43 +194,43 @@ behind_verb_finds : (verb bytes behind : Bytes) (l : Line) → Verb verb bytes b
 behind_verb_finds verb bytes behind l first is =
     either_then (bytes_eq verb (codes "replica")) _ _ (Some l) is
     (λ same e. map_then (one_name behind) _ l e (λ x reads equal. subst (HasForm bytes) equal (HasForm.replica (one_finds (codes "replica") bytes behind x (is_verb verb (codes "replica") bytes behind first same) reads))))
-    (λ other e. 
+    (λ other e.
     either_then (bytes_eq verb (codes "init")) _ _ (Some l) e
     (λ same e. map_then (name_and_call behind) _ l e (λ x reads equal. subst (HasForm bytes) equal (HasForm.init (call_finds (codes "init") bytes behind x (is_verb verb (codes "init") bytes behind first same) reads))))
-    (λ other e. 
+    (λ other e.
     either_then (bytes_eq verb (codes "join")) _ _ (Some l) e
     (λ same e. map_then (two_names behind) _ l e (λ x reads equal. subst (HasForm bytes) equal (HasForm.join (two_finds (codes "join") bytes behind x (is_verb verb (codes "join") bytes behind first same) reads))))
-    (λ other e. 
+    (λ other e.
     either_then (bytes_eq verb (codes "act")) _ _ (Some l) e
     (λ same e. map_then (name_and_call behind) _ l e (λ x reads equal. subst (HasForm bytes) equal (HasForm.act (call_finds (codes "act") bytes behind x (is_verb verb (codes "act") bytes behind first same) reads))))
-    (λ other e. 
+    (λ other e.
     either_then (bytes_eq verb (codes "sync")) _ _ (Some l) e
     (λ same e. map_then (two_names behind) _ l e (λ x reads equal. subst (HasForm bytes) equal (HasForm.sync (two_finds (codes "sync") bytes behind x (is_verb verb (codes "sync") bytes behind first same) reads))))
-    (λ other e. 
+    (λ other e.
     either_then (bytes_eq verb (codes "ask")) _ _ (Some l) e
     (λ same e. map_then (one_name behind) _ l e (λ x reads equal. subst (HasForm bytes) equal (HasForm.ask (one_finds (codes "ask") bytes behind x (is_verb verb (codes "ask") bytes behind first same) reads))))
-    (λ other e. 
+    (λ other e.
     either_then (bytes_eq verb (codes "next")) _ _ (Some l) e
     (λ same e. map_then (name_and_number behind) _ l e (λ x reads equal. subst (HasForm bytes) equal (HasForm.next (message_finds (codes "next") bytes behind x (is_verb verb (codes "next") bytes behind first same) reads))))
-    (λ other e. 
+    (λ other e.
     either_then (bytes_eq verb (codes "answer")) _ _ (Some l) e
     (λ same e. map_then (name_and_number behind) _ l e (λ x reads equal. subst (HasForm bytes) equal (HasForm.answer (message_finds (codes "answer") bytes behind x (is_verb verb (codes "answer") bytes behind first same) reads))))
-    (λ other e. 
+    (λ other e.
     either_then (bytes_eq verb (codes "take")) _ _ (Some l) e
     (λ same e. map_then (name_and_number behind) _ l e (λ x reads equal. subst (HasForm bytes) equal (HasForm.take (message_finds (codes "take") bytes behind x (is_verb verb (codes "take") bytes behind first same) reads))))
-    (λ other e. 
+    (λ other e.
     either_then (bytes_eq verb (codes "inject")) _ _ (Some l) e
     (λ same e. map_then (hex_alone behind) _ l e (λ x reads equal. subst (HasForm bytes) equal (HasForm.inject (hex_finds bytes behind x (is_verb verb (codes "inject") bytes behind first same) reads))))
-    (λ other e. 
+    (λ other e.
     either_then (bytes_eq verb (codes "restart")) _ _ (Some l) e
     (λ same e. map_then (one_name behind) _ l e (λ x reads equal. subst (HasForm bytes) equal (HasForm.restart (one_finds (codes "restart") bytes behind x (is_verb verb (codes "restart") bytes behind first same) reads))))
-    (λ other e. 
+    (λ other e.
     either_then (bytes_eq verb (codes "facts")) _ _ (Some l) e
     (λ same e. map_then (one_name behind) _ l e (λ x reads equal. subst (HasForm bytes) equal (HasForm.facts (one_finds (codes "facts") bytes behind x (is_verb verb (codes "facts") bytes behind first same) reads))))
-    (λ other e. 
+    (λ other e.
     either_then (bytes_eq verb (codes "effects")) _ _ (Some l) e
     (λ same e. map_then (one_name behind) _ l e (λ x reads equal. subst (HasForm bytes) equal (HasForm.effects (one_finds (codes "effects") bytes behind x (is_verb verb (codes "effects") bytes behind first same) reads))))
-    (λ other e. 
+    (λ other e.
     either_then (bytes_eq verb (codes "graph")) _ _ (Some l) e
     (λ same e. map_then (one_name behind) _ l e (λ x reads equal. subst (HasForm bytes) equal (HasForm.graph (one_finds (codes "graph") bytes behind x (is_verb verb (codes "graph") bytes behind first same) reads))))
     (λ other e. none_some e))))))))))))))

@@ -9,8 +9,8 @@ use Rattle.script.specs.Tokens.{Number, Part, Quoted, Word, escaped, int_of, is_
 use Rattle.script.specs.working.Readers.{Reader, after, chosen, run_at, unspaced}
 use Rattle.script.specs.working.ReadingTokens.{number_at, onto, part_at, quoted_at, text_from, word_at}
 use Rattle.script.proofs.Options.{bind_then, chosen_then, either_then, if_then, map_then, none_some, same_some}
-use Rattle.script.proofs.Marks.{after_finds, after_reads, front_shorter, other_first}
-use Rattle.script.proofs.Runs.{says_begins, says_finds, says_reads, says_shorter, spaces_found, spaces_read, spaces_shorter}
+use Rattle.script.proofs.MarkLaws.{after_finds, after_reads, front_shorter, other_first}
+use Rattle.script.proofs.RunLaws.{says_begins, says_finds, says_reads, says_shorter, spaces_found, spaces_read, spaces_shorter}
 
 -- something behind spaces
 pub behind_reads : {A : Type 0} (X : Between A) (read : Reader A) (bytes rest : Bytes) (a : A)

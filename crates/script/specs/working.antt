@@ -4,3 +4,6 @@ pub mod ReadingTokens
 pub mod ReadingArguments
 pub mod ReadingLines
 pub mod ReadingScripts
+pub mod Numbers
+pub mod QuotedSteps
+pub mod Separators

@@ -39,6 +39,10 @@ some_from one bytes = option_and_then (λ a. option_map (λ rest. (arg.Some a.0,
 abbrev pub field_at : Reader Arg → Reader (Bytes × Arg)
 field_at one bytes = option_and_then (λ name. option_and_then (λ mid. option_map (λ a. ((name.0, a.0), a.1)) (one (unspaced mid))) (mark_at (codes ":") name.1)) (word_at (unspaced bytes))
 
+-- an id, from behind a word and a colon
+abbrev pub ident_at : Bytes → Reader Arg
+ident_at word bytes = if bytes_eq word (codes "id") then making arg.Ident (run_at is_hex_digit id_of_hex bytes) else None
+
 -- what stands behind a word that is no part of a path
 abbrev pub behind_word : Reader Arg → Bytes → Bytes → Option (Arg × Bytes)
 behind_word one word bytes =
@@ -46,7 +50,7 @@ behind_word one word bytes =
     (chosen (mark_at (codes "(") bytes)
     (chosen (after (codes ":") bytes)
     (constant word bytes)
-    (λ mid. if bytes_eq word (codes "id") then making arg.Ident (run_at is_hex_digit id_of_hex mid) else None))
+    (λ mid. ident_at word mid))
     (λ mid. if bytes_eq word (codes "Some") then some_from one mid else None))
     (λ mid. making (arg.Fields word) (listed (codes "}") (field_at one) mid))
 

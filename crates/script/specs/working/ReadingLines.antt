@@ -35,7 +35,26 @@ name_and_call bytes =
 unfoldable pub hex_alone : Bytes → Option Bytes
 hex_alone bytes = option_and_then ended (part_at some_bytes_of_hex bytes)
 
--- a line by its first part
+-- a line that restarts or shows a replica, by its verb
+abbrev pub showing_line : Bytes → Bytes → Option Line
+showing_line verb rest =
+    if bytes_eq verb (codes "restart") then option_map line.Restart (one_name rest)
+    else if bytes_eq verb (codes "facts") then option_map line.Facts (one_name rest)
+    else if bytes_eq verb (codes "effects") then option_map line.Effects (one_name rest)
+    else if bytes_eq verb (codes "graph") then option_map line.Graph (one_name rest)
+    else None
+
+-- a line that makes or takes a message, or one of those
+abbrev pub message_line : Bytes → Bytes → Option Line
+message_line verb rest =
+    if bytes_eq verb (codes "ask") then option_map line.Ask (one_name rest)
+    else if bytes_eq verb (codes "next") then option_map (λ n. line.Next n.0 n.1) (name_and_number rest)
+    else if bytes_eq verb (codes "answer") then option_map (λ n. line.Answer n.0 n.1) (name_and_number rest)
+    else if bytes_eq verb (codes "take") then option_map (λ n. line.Take n.0 n.1) (name_and_number rest)
+    else if bytes_eq verb (codes "inject") then option_map line.Inject (hex_alone rest)
+    else showing_line verb rest
+
+-- a line from behind its verb
 abbrev pub line_behind : Bytes → Bytes → Option Line
 line_behind verb rest =
     if bytes_eq verb (codes "replica") then option_map line.Replica (one_name rest)
@@ -43,16 +62,7 @@ line_behind verb rest =
     else if bytes_eq verb (codes "join") then option_map (λ n. line.Join n.0 n.1) (two_names rest)
     else if bytes_eq verb (codes "act") then option_map (λ c. line.Act c.0 c.1 c.2) (name_and_call rest)
     else if bytes_eq verb (codes "sync") then option_map (λ n. line.Sync n.0 n.1) (two_names rest)
-    else if bytes_eq verb (codes "ask") then option_map line.Ask (one_name rest)
-    else if bytes_eq verb (codes "next") then option_map (λ n. line.Next n.0 n.1) (name_and_number rest)
-    else if bytes_eq verb (codes "answer") then option_map (λ n. line.Answer n.0 n.1) (name_and_number rest)
-    else if bytes_eq verb (codes "take") then option_map (λ n. line.Take n.0 n.1) (name_and_number rest)
-    else if bytes_eq verb (codes "inject") then option_map line.Inject (hex_alone rest)
-    else if bytes_eq verb (codes "restart") then option_map line.Restart (one_name rest)
-    else if bytes_eq verb (codes "facts") then option_map line.Facts (one_name rest)
-    else if bytes_eq verb (codes "effects") then option_map line.Effects (one_name rest)
-    else if bytes_eq verb (codes "graph") then option_map line.Graph (one_name rest)
-    else None
+    else message_line verb rest
 
 -- a line that is neither a comment nor spaces alone
 abbrev pub spoken : Bytes → Option Line

@@ -2,9 +2,14 @@
 use Rattle.std.specs.Prelude.{ℕ, ◌+◌, ◌&&◌, nat_lt, if◌then◌else◌, List, [], ◌∷◌, ◌++◌, length, Option, Some, None, Result, Ok, Err}
 use Rattle.std.specs.Option.{option_map_or}
 use Rattle.script.specs.declared.line.Line.{Line}
+use Rattle.script.specs.declared.seen.Seen.{Seen}
 use Rattle.script.specs.Pieces.{Bytes}
 use Rattle.script.specs.Scripts.{Declared, has_place, most_lines, with_line}
 use Rattle.script.specs.working.ReadingLines.{line_of}
+
+-- what was seen, as definitions have it
+abbrev pub declared : Seen → Declared
+declared seen = record { names = seen.names; messages = seen.messages }
 
 -- a line that has its place
 abbrev pub placed : Declared → ℕ → Option Line → Option Line

@@ -2,9 +2,9 @@
 use Rattle.std.proofs.Common.{◌≡◌, ℕ, zero, suc, ◌<◌, ◌≤◌, ◌+◌, ◌-◌, List, [], ◌∷◌, ◌++◌, length, codes, Option, Some, None, option_and_then, refl, sym, ap, ◌∙◌, subst, arith, append_assoc}
 use Rattle.script.specs.Pieces.{Between, Bytes, Listed, Mark, Members}
 use Rattle.script.specs.working.Readers.{Reader, after, chosen, listed, mark_at, members, unspaced}
-use Rattle.script.proofs.Marks.{mark_finds, mark_reads, mark_shorter}
+use Rattle.script.proofs.MarkLaws.{mark_finds, mark_reads, mark_shorter}
 use Rattle.script.proofs.Options.{bind_then, chosen_then, none_some, same_some}
-use Rattle.script.proofs.Runs.{spaces_read}
+use Rattle.script.proofs.RunLaws.{spaces_read}
 
 -- members that were read behind others
 pub record AreFound {A : Type 0} (close : Bytes) (X : Between A) (found : List A) (bytes : Bytes) (p : List A × Bytes) : Type 0 where

@@ -9,7 +9,7 @@ use Rattle.std.proofs.lemmas.Slice.Eq.{bytes_eq-Decides, starts_is}
 use Rattle.script.specs.Pieces.{Bytes, Mark, begins_with}
 use Rattle.script.specs.working.Readers.{after, mark_at, unspaced}
 use Rattle.script.proofs.Options.{if_then, none_some}
-use Rattle.script.proofs.Runs.{spaces_found, spaces_read, spaces_shorter}
+use Rattle.script.proofs.RunLaws.{spaces_found, spaces_read, spaces_shorter}
 
 -- bytes that begin with others are read so
 pub after_reads : (front bytes rest : Bytes) → bytes ≡ front ++ rest → after front bytes ≡ Some rest
