@@ -1,7 +1,7 @@
 -- Where arguments begin, and how long they are.
-use Rattle.std.proofs.Common.{◌≡◌, ℕ, zero, suc, ◌<◌, ◌≤◌, ◌+◌, ◌==◌, ◌&&◌, ◌||◌, Bool, true, false, List, [], ◌∷◌, ◌++◌, length, codes, Option, Some, None, refl, sym, ap, ◌∙◌, subst, arith, true≢false}
+use Rattle.std.proofs.Common.{◌≡◌, ℕ, zero, suc, ◌≤◌, ◌==◌, ◌||◌, Bool, true, false, List, [], ◌∷◌, ◌++◌, length, codes, Some, None, refl, sym, arith, true≢false}
 use Rattle.std.specs.Char.{is_ascii_digit}
-use Rattle.std.specs.List.{list_all, take_while}
+use Rattle.std.specs.List.{list_all}
 use Rattle.std.specs.Str.{byte}
 use Rattle.std.proofs.lemmas.Bool.{and_parts}
 use Rattle.std.proofs.lemmas.Bool.Decides.{nat_tests}
@@ -9,11 +9,11 @@ use Rattle.hex.specs.Hex.{is_hex_digit}
 use Rattle.base_bytes.specs.Words.{begins_with_letter, is_word, is_word_byte}
 use Rattle.base_bytes.specs.declared.arg.Arg.{Arg}
 use Rattle.script.specs.Arguments.{ArgumentOver, Field, Within}
-use Rattle.script.specs.Pieces.{Between, Behind, Bytes, Listed, Mark, Members, Run, begins_with}
+use Rattle.script.specs.Pieces.{Between, Behind, Bytes, Listed, Members, begins_with}
 use Rattle.script.specs.Tokens.{Number, Word, author_of, bytes_of_hex, id_of_hex, int_of, is_replica_byte, passing}
-use Rattle.script.specs.working.Readers.{after, mark_at}
+use Rattle.script.specs.working.Readers.{mark_at}
 use Rattle.script.proofs.MarkLaws.{begins_more, front_shorter, mark_shorter, other_first}
-use Rattle.script.proofs.Options.{if_then, none_some}
+use Rattle.script.proofs.Options.{if_then}
 use Rattle.script.proofs.RunLaws.{says_begins, says_shorter, spaces_read, spaces_shorter}
 use Rattle.script.proofs.TokenLaws.{number_shorter, quoted_shorter}
 

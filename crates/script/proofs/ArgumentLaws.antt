@@ -1,7 +1,7 @@
 -- Arguments: what is written is read, and only that.
-use Rattle.std.proofs.Common.{◌≡◌, ℕ, zero, suc, ◌<◌, ◌≤◌, ◌+◌, ◌==◌, ◌&&◌, ◌||◌, Bool, true, false, if◌then◌else◌, List, [], ◌∷◌, ◌++◌, length, codes, Option, Some, None, option_map, option_and_then, refl, sym, ap, ◌∙◌, subst, arith, true≢false}
+use Rattle.std.proofs.Common.{◌≡◌, ℕ, zero, suc, true, false, if◌then◌else◌, [], ◌∷◌, ◌++◌, codes, Option, Some, None, refl, ap, ◌∙◌, subst, arith}
 use Rattle.std.specs.Char.{is_ascii_digit}
-use Rattle.std.specs.Str.{byte, bytes_eq, is_utf8}
+use Rattle.std.specs.Str.{bytes_eq, is_utf8}
 use Rattle.std.proofs.lemmas.Bool.Decides.{nat_tests}
 use Rattle.std.proofs.lemmas.Slice.Eq.{bytes_eq-Decides}
 use Rattle.hex.specs.Hex.{decode_pairs, is_hex_digit}
@@ -9,17 +9,17 @@ use Rattle.base_bytes.specs.Words.{begins_with_letter, is_word, is_word_byte}
 use Rattle.base_bytes.specs.declared.arg.Arg.{Arg}
 use Rattle.base_bytes.specs.declared.arg.Arg.TheVariants as arg
 use Rattle.script.specs.Arguments.{ArgumentOver, Field, Within}
-use Rattle.script.specs.Pieces.{Between, Behind, Bytes, Listed, Mark, Members, Run, Says, begins_with}
-use Rattle.script.specs.Tokens.{Number, Quoted, Word, author_of, bytes_of_hex, id_of_hex, int_of, is_replica_byte, passing}
+use Rattle.script.specs.Pieces.{Between, Bytes, Mark, begins_with}
+use Rattle.script.specs.Tokens.{Number, Word, author_of, bytes_of_hex, id_of_hex, int_of, is_replica_byte, passing}
 use Rattle.script.specs.working.Readers.{Reader, after, chosen, listed, mark_at, run_at, unspaced}
 use Rattle.script.specs.working.ReadingArguments.{argument_over, argument_within, behind_word, constant, field_at, ident_at, making, plain_argument, some_from, worded_argument}
 use Rattle.script.specs.working.ReadingTokens.{number_at, quoted_at, text_from, word_at}
-use Rattle.script.proofs.ArgumentFacts.{AreParts, IsPart, behind_opens, behind_shorter, field_shorter, is_first, within_parts, word_is, word_letter, word_part}
+use Rattle.script.proofs.ArgumentFacts.{AreParts, behind_opens, field_shorter, within_parts, word_is, word_letter, word_part}
 use Rattle.script.proofs.Ends.{Ends, ends_at_mark, no_colon_before_end, no_mark_before_end, no_path_before_end, no_path_before_mark, number_no_hex, one_mark}
 use Rattle.script.proofs.ListLaws.{IsReadBefore, listed_finds, listed_reads}
-use Rattle.script.proofs.MarkLaws.{after_finds, after_reads, begins_more, mark_finds, mark_reads, other_first, other_second}
+use Rattle.script.proofs.MarkLaws.{after_finds, after_reads, mark_finds, mark_reads, other_first, other_second}
 use Rattle.script.proofs.Options.{bind_then, chosen_then, either_then, if_then, map_then, none_some, same_some}
-use Rattle.script.proofs.RunLaws.{says_begins, says_finds, says_reads, spaces_found, spaces_read}
+use Rattle.script.proofs.RunLaws.{says_begins, says_finds, says_reads}
 use Rattle.script.proofs.TokenLaws.{behind_finds, behind_reads, number_finds, number_reads, quoted_finds, quoted_reads}
 
 -- what is written is read where an end follows

@@ -1,5 +1,5 @@
 -- What stands behind an argument: spaces, and then a comma or a mark that closes a list.
-use Rattle.std.proofs.Common.{◌≡◌, ℕ, ◌==◌, ◌&&◌, ◌||◌, Bool, true, false, List, [], ◌∷◌, ◌++◌, codes, Option, Some, None, refl, sym, ap, ◌∙◌, true≢false}
+use Rattle.std.proofs.Common.{◌≡◌, ℕ, ◌==◌, ◌||◌, Bool, true, false, [], ◌∷◌, ◌++◌, codes, None, refl, sym, ap, ◌∙◌, true≢false}
 use Rattle.std.specs.Char.{is_ascii_digit}
 use Rattle.std.specs.List.{list_all}
 use Rattle.std.specs.Str.{byte}
@@ -7,7 +7,7 @@ use Rattle.std.proofs.lemmas.Bool.{and_parts}
 use Rattle.std.proofs.lemmas.List.Sums.{take_while-cons}
 use Rattle.script.specs.Pieces.{Bytes, Mark, Run, begins_with, is_space}
 use Rattle.script.specs.working.Readers.{after, mark_at, unspaced}
-use Rattle.script.proofs.MarkLaws.{mark_reads, other_first, other_second}
+use Rattle.script.proofs.MarkLaws.{other_first, other_second}
 use Rattle.script.proofs.RunLaws.{spaces_read}
 
 abbrev pub is_end : ℕ → Bool

@@ -13,3 +13,4 @@ mod Drops
 mod DigitRuns
 mod Turns
 mod NextLines
+mod Readings

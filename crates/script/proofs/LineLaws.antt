@@ -1,5 +1,5 @@
 -- Lines: what is written is read, and only that; so bytes are at most one line.
-use Rattle.std.proofs.Common.{◌≡◌, ℕ, zero, suc, ◌<◌, ◌≤◌, ◌+◌, ◌==◌, ◌&&◌, nat_le, Bool, true, false, if◌then◌else◌, List, [], ◌∷◌, ◌++◌, length, codes, Option, Some, None, option_map, option_and_then, refl, sym, ap, ◌∙◌, subst, arith, true≢false}
+use Rattle.std.proofs.Common.{◌≡◌, ℕ, ◌==◌, ◌&&◌, nat_le, Bool, true, false, List, [], ◌∷◌, ◌++◌, length, codes, Option, Some, option_map, option_and_then, refl, sym, ap, ◌∙◌, subst, arith, true≢false}
 use Rattle.std.specs.Str.{byte, bytes_eq, is_utf8}
 use Rattle.std.proofs.lemmas.Bool.{eqb-true}
 use Rattle.std.proofs.lemmas.Bool.Decides.{nat_tests}
@@ -10,19 +10,19 @@ use Rattle.script.specs.declared.line.Line.TheVariants as line
 use Rattle.script.specs.Arguments.{Argument}
 use Rattle.script.specs.Laws.{IsOneLine}
 use Rattle.script.specs.Lines.{HasForm, IsEnd, IsLine, OfCall, OfHex, OfMessage, OfOne, OfTwo, Verb}
-use Rattle.script.specs.Pieces.{Between, Behind, Bytes, Listed, Mark, Says, Spaces, begins_with, is_space}
-use Rattle.script.specs.Tokens.{Part, Word, is_part_byte, message_number, passing, replica_name, some_bytes_of_hex}
-use Rattle.script.specs.working.Readers.{Reader, after, chosen, listed, mark_at, past, unspaced}
+use Rattle.script.specs.Pieces.{Behind, Bytes, Listed, Spaces, begins_with}
+use Rattle.script.specs.Tokens.{Word, message_number, replica_name, some_bytes_of_hex}
+use Rattle.script.specs.working.Readers.{after, mark_at, unspaced}
 use Rattle.script.specs.working.ReadingArguments.{argument_at, argument_within}
-use Rattle.script.specs.working.ReadingLines.{arguments_at, ended, form_of, hex_alone, line_behind, line_of, name_and_call, name_and_number, one_name, spoken, two_names}
+use Rattle.script.specs.working.ReadingLines.{arguments_at, ended, form_of, hex_alone, line_behind, line_of, name_and_call, name_and_number, one_name, two_names}
 use Rattle.script.specs.working.ReadingTokens.{part_at, word_at}
-use Rattle.script.proofs.ArgumentFacts.{IsPart, behind_opens, behind_shorter, within_parts}
+use Rattle.script.proofs.ArgumentFacts.{behind_opens, behind_shorter, within_parts}
 use Rattle.script.proofs.ArgumentLaws.{within_finds, within_reads, word_finds, word_reads}
 use Rattle.script.proofs.Ends.{Ends, ends_at_mark, is_space_or, next_is}
 use Rattle.script.proofs.ListLaws.{IsReadBefore, listed_finds, listed_reads}
-use Rattle.script.proofs.MarkLaws.{after_finds, after_reads, begins_more, mark_finds, mark_reads, other_first}
+use Rattle.script.proofs.MarkLaws.{after_finds, mark_finds, mark_reads, other_first}
 use Rattle.script.proofs.Options.{bind_then, chosen_then, either_then, if_then, map_then, none_some, same_some}
-use Rattle.script.proofs.RunLaws.{says_begins, spaces_found, spaces_read}
+use Rattle.script.proofs.RunLaws.{spaces_found, spaces_read}
 use Rattle.script.proofs.TokenLaws.{behind_finds, behind_reads, part_finds, part_reads}
 
 -- the arguments of a call

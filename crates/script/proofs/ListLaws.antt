@@ -1,7 +1,7 @@
 -- Lists of what is separated by commas: what is written is read, and only that.
-use Rattle.std.proofs.Common.{◌≡◌, ℕ, zero, suc, ◌<◌, ◌≤◌, ◌+◌, ◌-◌, List, [], ◌∷◌, ◌++◌, length, codes, Option, Some, None, option_and_then, refl, sym, ap, ◌∙◌, subst, arith, append_assoc}
+use Rattle.std.proofs.Common.{◌≡◌, ℕ, zero, suc, ◌<◌, ◌≤◌, List, [], ◌∷◌, ◌++◌, length, codes, Some, None, option_and_then, refl, sym, ap, ◌∙◌, subst, arith, append_assoc}
 use Rattle.script.specs.Pieces.{Between, Bytes, Listed, Mark, Members}
-use Rattle.script.specs.working.Readers.{Reader, after, chosen, listed, mark_at, members, unspaced}
+use Rattle.script.specs.working.Readers.{Reader, after, listed, mark_at, members}
 use Rattle.script.proofs.MarkLaws.{mark_finds, mark_reads, mark_shorter}
 use Rattle.script.proofs.Options.{bind_then, chosen_then, none_some, same_some}
 use Rattle.script.proofs.RunLaws.{spaces_read}

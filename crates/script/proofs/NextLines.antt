@@ -1,11 +1,11 @@
 -- The lines of a text, one after another.
-use Rattle.std.proofs.Common.{◌≡◌, ℕ, ◌+◌, ◌-◌, ◌<◌, ◌≤◌, ◌==◌, Bool, true, false, cond, nat_lt, if◌then◌else◌, List, [], ◌∷◌, ◌++◌, map, append_assoc, append-nil, Bor, Some, None, length, length-drop, take, drop, refl, sym, ap, ◌∙◌, arith}
+use Rattle.std.proofs.Common.{◌≡◌, ℕ, ◌+◌, ◌-◌, ◌<◌, ◌≤◌, ◌==◌, Bool, true, false, cond, nat_lt, if◌then◌else◌, List, [], ◌∷◌, Some, None, length, length-drop, take, drop, refl, ap, ◌∙◌, arith}
 use Rattle.std.specs.List.{position, position_or_len, slice_split}
 use Rattle.std.specs.Str.Lines.{lines, lines_of_parts, strip_carriage_return}
 use Rattle.std.proofs.lemmas.List.Quantifiers.{position-Some}
 use Rattle.std.proofs.lemmas.List.Splits.{slice_split_first, slice_split_none, length-slice_split}
 use Rattle.std.proofs.lemmas.List.Sums.{position_or_len_is, fails_before_first}
-use Rattle.std.proofs.lemmas.List.{map-append, take_all}
+use Rattle.std.proofs.lemmas.List.{take_all}
 use Rattle.std.proofs.lemmas.Bool.Decides.{nat_tests}
 
 -- a line feed
@@ -40,6 +40,10 @@ lines_last xs at =
 pub last_of : (xs : List ℕ) → 0 < length xs → (if length xs == 0 then [] else xs ∷ []) ≡ xs ∷ []
 last_of [] some = absurd (omega (arith, some))
 last_of (x ∷ xs) some = grind (arith, nat_tests)
+
+-- a slice from a place on is all that stands behind it
+pub drop_taken : (m n : ℕ) (xs : List ℕ) → m ≡ length xs - n → take m (drop n xs) ≡ drop n xs
+drop_taken m n xs is = take_all m (drop n xs) (omega (arith, is, length-drop n xs))
 
 -- what has no line feed is its own last line
 pub last_alone : (xs : List ℕ) → position is_line_feed xs ≡ None → (length xs ≡ 0 → ⊥) → lines xs ≡ xs ∷ lines []

@@ -1,16 +1,15 @@
 -- Words, numbers, texts and parts: what is written is read, and only that.
-use Rattle.std.proofs.Common.{◌≡◌, ℕ, ℤ, suc, ◌<◌, ◌≤◌, ◌+◌, ◌-◌, ◌==◌, Bool, true, false, if◌then◌else◌, List, [], ◌∷◌, ◌++◌, length, take, drop, codes, Option, Some, None, option_map, option_and_then, refl, sym, ap, ◌∙◌, subst, arith, length-append}
+use Rattle.std.proofs.Common.{◌≡◌, ℕ, ℤ, ◌≤◌, ◌==◌, true, false, [], ◌∷◌, length, codes, Option, Some, refl, sym, subst, arith}
 use Rattle.std.specs.Char.{is_ascii_digit}
-use Rattle.std.specs.Str.{byte, is_utf8}
+use Rattle.std.specs.Str.{byte}
 use Rattle.std.specs.Cmp.{unsigned_Decides}
-use Rattle.base_bytes.specs.Words.{begins_with_letter, is_word, is_word_byte}
 use Rattle.script.specs.Pieces.{Between, Behind, Bytes, Says}
-use Rattle.script.specs.Tokens.{Number, Part, Quoted, Word, escaped, int_of, is_part_byte, passing}
-use Rattle.script.specs.working.Readers.{Reader, after, chosen, run_at, unspaced}
-use Rattle.script.specs.working.ReadingTokens.{number_at, onto, part_at, quoted_at, text_from, word_at}
-use Rattle.script.proofs.Options.{bind_then, chosen_then, either_then, if_then, map_then, none_some, same_some}
+use Rattle.script.specs.Tokens.{Number, Part, Quoted, escaped, int_of, is_part_byte}
+use Rattle.script.specs.working.Readers.{Reader, after, run_at, unspaced}
+use Rattle.script.specs.working.ReadingTokens.{number_at, onto, part_at, text_from}
+use Rattle.script.proofs.Options.{bind_then, chosen_then, either_then, map_then, none_some, same_some}
 use Rattle.script.proofs.MarkLaws.{after_finds, after_reads, front_shorter, other_first}
-use Rattle.script.proofs.RunLaws.{says_begins, says_finds, says_reads, says_shorter, spaces_found, spaces_read, spaces_shorter}
+use Rattle.script.proofs.RunLaws.{says_begins, says_finds, says_reads, says_shorter, spaces_found, spaces_read}
 
 -- something behind spaces
 pub behind_reads : {A : Type 0} (X : Between A) (read : Reader A) (bytes rest : Bytes) (a : A)

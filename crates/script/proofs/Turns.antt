@@ -1,6 +1,5 @@
 -- One turn of each reading that goes on as long as it can, and its end where no turn is left.
-use Rattle.std.proofs.Common.{◌≡◌, ℕ, zero, suc, ◌<◌, ◌+◌, ◌-◌, false, length, List, [], ◌∷◌, ◌++◌, Option, Some, None, option_map, option_and_then, codes, refl, sym, ap, ◌∙◌, arith, append_assoc}
-use Rattle.base_bytes.specs.declared.arg.Arg.{Arg}
+use Rattle.std.proofs.Common.{◌≡◌, ℕ, zero, suc, ◌<◌, ◌+◌, ◌-◌, false, length, List, [], ◌∷◌, ◌++◌, Option, Some, None, option_map, option_and_then, codes, refl, arith, append_assoc}
 use Rattle.script.specs.Pieces.{Bytes}
 use Rattle.script.specs.working.Readers.{Reader, chosen, mark_at, members}
 use Rattle.script.specs.working.ReadingArguments.{argument_over, argument_within}

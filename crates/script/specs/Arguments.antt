@@ -1,6 +1,5 @@
 -- The arguments of an action, as lines write them.
-use Rattle.std.specs.Prelude.{◌≡◌, ℕ, zero, suc, ℤ, true, false, List, [], ◌∷◌, ◌++◌, codes, Some}
-use Rattle.std.specs.Char.{is_ascii_digit}
+use Rattle.std.specs.Prelude.{◌≡◌, ℕ, zero, suc, ℤ, true, false, List, ◌++◌, codes}
 use Rattle.std.specs.Str.{is_utf8}
 use Rattle.hex.specs.Hex.{is_hex_digit}
 use Rattle.base_bytes.specs.declared.arg.Arg.{Arg}

@@ -4,5 +4,6 @@ pub mod Tokens
 pub mod Arguments
 pub mod Lines
 pub mod Scripts
+pub mod Answers
 pub mod Laws
 pub mod working

@@ -1,5 +1,5 @@
 -- The lines of a script: which bytes are which line.
-use Rattle.std.specs.Prelude.{◌≡◌, ℕ, true, List, [], ◌∷◌, ◌++◌, codes, Some}
+use Rattle.std.specs.Prelude.{◌≡◌, ℕ, true, List, [], ◌++◌, codes, Some}
 use Rattle.std.specs.Str.{is_utf8}
 use Rattle.base_bytes.specs.declared.arg.Arg.{Arg}
 use Rattle.script.specs.declared.line.Line.{Line}

@@ -7,3 +7,4 @@ pub mod ReadingScripts
 pub mod Numbers
 pub mod QuotedSteps
 pub mod Separators
+pub mod Placing

@@ -1,5 +1,5 @@
 -- Texts between quotation marks, step by step.
-use Rattle.std.specs.Prelude.{◌≡◌, ℕ, ◌<◌, Bool, false, List, [], length, Some, None}
+use Rattle.std.specs.Prelude.{◌≡◌, ◌<◌, Bool, false, [], length, Some, None}
 use Rattle.script.specs.Pieces.{Bytes}
 use Rattle.script.specs.working.ReadingTokens.{onto, text_from}
 use Rattle.script.specs.declared.quoted.Step.{Step}

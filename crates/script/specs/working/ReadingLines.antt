@@ -1,5 +1,5 @@
 -- How lines are read.
-use Rattle.std.specs.Prelude.{ℕ, ◌==◌, if◌then◌else◌, List, [], ◌∷◌, length, codes, Option, Some, None, option_map, option_and_then}
+use Rattle.std.specs.Prelude.{ℕ, ◌==◌, if◌then◌else◌, List, length, codes, Option, Some, None, option_map, option_and_then}
 use Rattle.std.specs.Str.{bytes_eq, is_utf8}
 use Rattle.base_bytes.specs.declared.arg.Arg.{Arg}
 use Rattle.script.specs.declared.line.Line.{Line}
