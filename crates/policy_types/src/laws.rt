@@ -7,6 +7,7 @@ ghost use Rattle.policy_meaning.specs.declared.call.Call.{Call};
 ghost use Rattle.policy_rules.specs.WellTyped.{IsWellTyped};
 ghost use Rattle.policy_types.specs.Fitting.{IsId};
 ghost use Rattle.policy_types.specs.NeverStuck.{ActionsGoWell, BlocksEndWell, ExpressionsGive, FinishLists, FunctionsGive, PatternsAsk};
+ghost use Rattle.policy_types.specs.Ranks.{HasRanks};
 ghost use Rattle.policy_types.specs.Resolved.{ResolvesTyped};
 
 /// An expression of a well-typed policy gives a value of its type, or a check fails, or there is a fault. A pattern asks for rows of its fact by key
@@ -42,4 +43,9 @@ pub fn actions_are_never_stuck()
 /// What an argument resolves to at a type of a well-typed policy is of that type.
 pub fn resolved_arguments_are_typed()
     ensures { (policy : List PlacedItem) → IsWellTyped policy → ResolvesTyped policy }
+{}
+
+/// In a well-typed policy a function calls only what is of a smaller rank than its own, so none reaches itself.
+pub fn functions_have_ranks()
+    ensures { (policy : List PlacedItem) → IsWellTyped policy → HasRanks policy }
 {}
