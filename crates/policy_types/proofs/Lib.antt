@@ -19,3 +19,4 @@ pub mod PolicyLaws
 pub mod Resolving
 pub mod WiderCalls
 pub mod Ranks
+mod SmallRows
