@@ -1,10 +1,10 @@
 -- In a well-typed policy what can be called has ranks: the rank is how many calls at most follow one another behind a call, itself counted.
-use Rattle.std.proofs.Common.{◌≡◌, ℕ, zero, suc, ◌<◌, ◌≤◌, Bool, true, false, cond, nat_le, nat_lt, List, Option, Some, None, slice_get, refl, sym, ap, subst, ◌∙◌, arith}
+use Rattle.std.proofs.Common.{◌≡◌, ℕ, zero, suc, ◌≤◌, Bool, true, false, cond, nat_le, nat_lt, List, Option, Some, refl, sym, subst, ◌∙◌, arith}
 use Rattle.std.proofs.lemmas.Bool.{false≢true, le-leb, lt-ltb}
 use Rattle.policy_ast.specs.declared.item.Item.{Item}
 use Rattle.policy_ast.specs.declared.item.Item.TheVariants as item
 use Rattle.policy_ast.specs.declared.policy.PlacedItem.{PlacedItem}
-use Rattle.policy_rules.specs.Calls.{Callee, a_finish_function, a_function, called_calls, chain_within, is_no_call, item_calls, longest_chain, may_chain}
+use Rattle.policy_rules.specs.Calls.{Callee, a_finish_function, a_function, called_calls, chain_within, is_no_call, longest_chain}
 use Rattle.policy_rules.specs.Names.{Name, item_named}
 use Rattle.policy_rules.specs.WellTyped.{IsWellTyped, IsWellTypedAt, items_of}
 use Rattle.policy_types.proofs.Standing.{standing}

@@ -1,17 +1,16 @@
 -- The definitions at small cases: what is as asked for, and what is not.
-use Rattle.std.proofs.Common.{◌≡◌, ℕ, true, List, [], ◌∷◌, codes, zero, suc, Some, None, refl, subst}
+use Rattle.std.proofs.Common.{◌≡◌, ℕ, true, List, [], ◌∷◌, codes, zero, suc, Some, refl, subst}
 use Rattle.std.proofs.lemmas.Option.{same_Some}
 use Rattle.base_bytes.specs.declared.value.Value.{Value}
 use Rattle.base_bytes.specs.declared.value.Value.TheVariants as value
-use Rattle.fact_store.specs.declared.row.Row.{Row}
 use Rattle.policy_ast.specs.declared.item.Item.{Item}
 use Rattle.policy_ast.specs.declared.item.Item.TheVariants as item
 use Rattle.policy_ast.specs.declared.item.Section.{Section}
 use Rattle.policy_ast.specs.declared.item.Section.TheVariants as section
 use Rattle.policy_ast.specs.declared.policy.PlacedItem.{PlacedItem}
 use Rattle.policy_meaning.specs.Applying.{Passes, Sticks}
-use Rattle.policy_meaning.specs.Blocks.{policy_block, recall_block}
-use Rattle.policy_meaning.specs.Outcomes.{Out, Done, Ends, Check, Fault, Stuck}
+use Rattle.policy_meaning.specs.Blocks.{policy_block}
+use Rattle.policy_meaning.specs.Outcomes.{Done, Ends, Check, Fault, Stuck}
 use Rattle.policy_meaning.specs.Typed.{AreTyped, IsCommandOf}
 use Rattle.policy_meaning.specs.declared.call.Call.{Call}
 use Rattle.policy_meaning.specs.declared.ends.FaultKind.TheVariants as fault
@@ -25,7 +24,7 @@ use Rattle.policy_types.proofs.PolicyLaws.{blocks_end}
 use Rattle.policy_types.proofs.Values.{is_bool}
 use Rattle.policy_types.specs.Endings.{Gives}
 use Rattle.policy_types.specs.EndsWell.{EndsWell}
-use Rattle.policy_types.specs.Fitting.{AreOf, Fits, IsId, IsOf}
+use Rattle.policy_types.specs.Fitting.{AreOf, Fits, IsId}
 use Rattle.policy_types.specs.NeverStuck.{BlocksEndWell}
 
 -- ---- evaluations
@@ -72,11 +71,11 @@ are_sections items = rules.more_sections (rules.fields_section refl) (rules.more
 well_typed : IsWellTyped policy
 unfolding policy sections
 well_typed zero i at = subst (IsItem (item.Command (codes "c") sections ∷ []) []) (same_Some _ i at) (record {
-    free = refl;
-    of_kind = rules.command refl refl (are_sections (item.Command (codes "c") sections ∷ []));
-    nests = refl;
-    chains = refl;
-  })
+  free = refl;
+  of_kind = rules.command refl refl (are_sections (item.Command (codes "c") sections ∷ []));
+  nests = refl;
+  chains = refl;
+})
 well_typed (suc n) i at = absurd (cc)
 
 it_is_a_command : (id : List ℕ) → IsCommandOf policy 0 []

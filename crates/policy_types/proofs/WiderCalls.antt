@@ -1,6 +1,5 @@
 -- What calls only what one test lets be called, calls only what a wider test lets be called.
-use Rattle.std.proofs.Common.{◌≡◌, Bool, true, false, ◌&&◌, List, [], ◌∷◌, map, Option, Some, None, unwrap_or, refl, sym, ap, subst, ◌∙◌}
-use Rattle.std.proofs.lemmas.Bool.{false≢true}
+use Rattle.std.proofs.Common.{◌≡◌, Bool, true, ◌&&◌, List, [], ◌∷◌, map, Option, Some, None, unwrap_or, refl, sym, subst, ◌∙◌}
 use Rattle.std.specs.List.{list_all}
 use Rattle.base_bytes.proofs.Bools.{and_both, and_then}
 use Rattle.policy_ast.specs.declared.bind.Bind.{Bind}
