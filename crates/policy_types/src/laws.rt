@@ -22,12 +22,13 @@ pub fn functions_are_never_stuck()
     ensures { (policy : List PlacedItem) → IsWellTyped policy → FunctionsGive policy }
 {}
 
-/// A `finish` block of a well-typed policy lists typed writes and effects, or there is a fault.
+/// A `finish` block of a well-typed policy lists typed writes and effects, or a check fails, or there is a fault.
 pub fn finish_is_never_stuck()
     ensures { (policy : List PlacedItem) → IsWellTyped policy → FinishLists policy }
 {}
 
-/// The blocks of a command of a well-typed policy pass, with typed facts and effects, or a check fails, or there is a fault.
+/// The blocks of a command of a well-typed policy pass, with typed facts and effects, or a check fails, or there is a fault. So the command passes, is
+/// recalled or is void.
 pub fn blocks_are_never_stuck()
     ensures { (policy : List PlacedItem) (call : Call) (rows : List Row) → IsWellTyped policy → IsCommandOf policy call.command call.fields → IsId call.author → IsId call.id → AreTyped policy rows
         → BlocksEndWell policy call rows }
