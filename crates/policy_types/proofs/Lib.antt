@@ -17,3 +17,6 @@ pub mod Blocks
 pub mod Actions
 pub mod PolicyLaws
 pub mod Resolving
+pub mod WiderCalls
+pub mod Ranks
+mod SmallRows

@@ -4,6 +4,9 @@ use Rattle.base_bytes.proofs.Bools.{and_then}
 use Rattle.base_bytes.specs.declared.value.Value.{Value}
 use Rattle.fact_store.specs.declared.row.Row.{Row}
 use Rattle.policy_ast.specs.declared.policy.PlacedItem.{PlacedItem}
+use Rattle.policy_meaning.specs.Applying.{Ended, Passes, Checks, Faults, Sticks}
+use Rattle.policy_meaning.specs.Blocks.{policy_block, recall_block}
+use Rattle.policy_meaning.specs.Commands.{judged_by}
 use Rattle.policy_meaning.specs.Functions.{called}
 use Rattle.policy_meaning.specs.Expressions.{meaning}
 use Rattle.policy_meaning.specs.Typed.{AreTyped, IsActionOf, IsCommandOf}
@@ -17,6 +20,7 @@ use Rattle.policy_types.proofs.Expressions.{gives, gives_wanted}
 use Rattle.policy_types.proofs.Functions.{keeps_called}
 use Rattle.policy_types.proofs.Layouts.{gaps_bound, gaps_in}
 use Rattle.policy_types.proofs.Rows.{AreRows}
+use Rattle.policy_types.specs.EndsWell.{EndsWell, JudgedWell}
 use Rattle.policy_types.specs.Fitting.{IsId}
 use Rattle.policy_types.specs.NeverStuck.{ActionsGoWell, BlocksEndWell, ExpressionsGive, FinishLists, FunctionsGive, PatternsAsk}
 
@@ -49,8 +53,19 @@ module _ (policy : List PlacedItem) (well : IsWellTyped policy) where
   finish_lists command scope statements are calls rows setting env stands turns =
       command_lists (items_of policy) well rows (are_rows rows stands.facts) command setting stands.suits refl scope statements are calls env stands.names turns
 
+  -- what a command comes to, by how its blocks end
+  judged_well : (first second : Ended) → EndsWell policy first → EndsWell policy second → JudgedWell policy (judged_by first second)
+  judged_well (Passes rows effects) second is is_too = is
+  judged_well (Checks recall) (Passes rows effects) is is_too = is_too
+  judged_well (Checks recall) (Checks other) is is_too = tt
+  judged_well (Checks recall) (Faults kind) is is_too = tt
+  judged_well (Checks recall) Sticks is is_too = is_too
+  judged_well (Faults kind) second is is_too = tt
+  judged_well Sticks second is is_too = is
+
   pub blocks_end : (call : Call) (rows : List Row) → IsCommandOf policy call.command call.fields → IsId call.author → IsId call.id → AreTyped policy rows → BlocksEndWell policy call rows
-  blocks_end call rows is author id typed = let both = blocks_end_well policy well call is author id rows typed in record { policy_block = both.0; recall_block = both.1 }
+  blocks_end call rows is author id typed = let both = blocks_end_well policy well call is author id rows typed in
+      record { policy_block = both.0; recall_block = both.1; command = judged_well (policy_block policy call rows) (recall_block policy call rows) both.0 both.1 }
 
   pub actions_go : (action : ℕ) (arguments : List Value) (device : List ℕ) (rows : List Row) → IsActionOf policy action arguments → IsId device → AreTyped policy rows
       → ActionsGoWell policy action arguments device rows

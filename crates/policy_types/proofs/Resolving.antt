@@ -1,13 +1,13 @@
 -- The values that arguments resolve to.
-use Rattle.std.proofs.Common.{◌≡◌, ◌==◌, ℕ, ◌<◌, Bool, true, false, cond, ◌&&◌, List, [], ◌∷◌, length, map, nat_lt, slice_get, Option, Some, None, option_map, option_and_then, unwrap_or, refl, sym, ap, subst, ◌∙◌}
+use Rattle.std.proofs.Common.{◌≡◌, ◌==◌, ℕ, ◌<◌, Bool, true, false, cond, List, [], ◌∷◌, length, map, nat_lt, slice_get, Option, Some, None, option_map, option_and_then, unwrap_or, refl, sym, ap, subst, ◌∙◌}
 use Rattle.std.specs.Prelude.{position}
 use Rattle.std.proofs.lemmas.Bool.{eq-eqb, eqb-true, false≢true, ltb-true}
 use Rattle.std.proofs.lemmas.Option.{same_Some}
 use Rattle.std.specs.List.{position_or_len}
 use Rattle.std.specs.Str.{bytes_eq}
-use Rattle.base_bytes.proofs.Bools.{and_both, and_then}
+use Rattle.base_bytes.proofs.Bools.{and_both}
 use Rattle.base_bytes.proofs.Formats.{bind_then, if_then, map_then}
-use Rattle.base_bytes.specs.Values.{fits_bytes, fits_id, fits_int, fits_text, has_type, hold_in_order, is_variant, shape_at}
+use Rattle.base_bytes.specs.Values.{fits_bytes, fits_id, fits_int, fits_text, has_type, hold_in_order, is_variant}
 use Rattle.base_bytes.specs.declared.arg.Arg.{Arg, fold-roll-Arg, ind-Arg, map-Arg, roll-Arg}
 use Rattle.base_bytes.specs.declared.arg.Arg.TheOpen.{Arg-F}
 use Rattle.base_bytes.specs.declared.shapes.Shapes.{Shapes}
@@ -23,7 +23,7 @@ use Rattle.policy_ast.specs.declared.policy.PlacedItem.{PlacedItem}
 use Rattle.policy_ast.specs.declared.statement.Stmt.{Stmt}
 use Rattle.policy_meaning.specs.Environments.{variant_value}
 use Rattle.policy_meaning.specs.Resolving.{Resolving, given_for, means, name_each_once, only, resolved, resolved_fields, resolved_layer, resolved_struct}
-use Rattle.policy_meaning.specs.Typed.{IsActionOf, are_fields_of, is_action_of}
+use Rattle.policy_meaning.specs.Typed.{IsActionOf, is_action_of}
 use Rattle.policy_rules.specs.Heads.{enum_named, struct_named, variants}
 use Rattle.policy_rules.specs.Names.{Name, item_named, number_named}
 use Rattle.policy_rules.specs.Scopes.{names_in}
@@ -33,7 +33,7 @@ use Rattle.policy_rules.specs.declared.types.Named.{Named}
 use Rattle.policy_types.proofs.Layers.{closes, has_parts}
 use Rattle.policy_types.proofs.Standing.{StructStands, are_struct_fields, enum_variants_of, shape_stands, standing, struct_standing}
 use Rattle.policy_types.proofs.Values.{variant_is}
-use Rattle.policy_types.specs.Fitting.{AreOf, IsOf, types_of}
+use Rattle.policy_types.specs.Fitting.{AreOf, types_of}
 use Rattle.policy_types.specs.Resolved.{ResolveTo, ResolvesTyped}
 
 module _ (items : List Item) (well : (n : ℕ) → IsWellTypedAt items n) where

@@ -73,8 +73,8 @@ module _ (items : List Item) (well : (n : ℕ) → IsWellTypedAt items n) (rows 
   abbrev Flows : Bool → Ran → Type 0
   Flows must r = FlowIs items context must r.flow
 
-  abbrev Goes_to : Scope → Bool → Ran → Type 0
-  Goes_to after must r = FlowIs items context must r.flow × Fits items after r.env
+  abbrev GoesTo : Scope → Bool → Ran → Type 0
+  GoesTo after must r = FlowIs items context must r.flow × Fits items after r.env
 
   -- ---- what may go on
 
@@ -98,8 +98,8 @@ module _ (items : List Item) (well : (n : ℕ) → IsWellTypedAt items n) (rows 
   weakened a b less out is = subst (Gives (Flows b)) (same out) (gives_then (Flows a) (Flows b) out (λ r turns. Done r turns) is (λ r turns flow. weaker a b less r.flow flow))
 
   -- a block within others leaves the names as they were
-  within_gives : (scope : Scope) (must : Bool) (inner : Run) (env : Env) → Fits items scope env → (turns : ℕ) → Gives (Flows must) (inner env turns) → Gives (Goes_to scope must) (within inner env turns)
-  within_gives scope must inner env fit turns is = gives_then (Flows must) (Goes_to scope must) (inner env turns) (λ r turns. ran r.flow env turns) is (λ r n flow. (flow, fit))
+  within_gives : (scope : Scope) (must : Bool) (inner : Run) (env : Env) → Fits items scope env → (turns : ℕ) → Gives (Flows must) (inner env turns) → Gives (GoesTo scope must) (within inner env turns)
+  within_gives scope must inner env fit turns is = gives_then (Flows must) (GoesTo scope must) (inner env turns) (λ r turns. ran r.flow env turns) is (λ r n flow. (flow, fit))
 
   then_gives : (after : Scope) (must : Bool) (rest : Run) (must_all : Bool) → (flow : Flow) → FlowIs items context must flow → (env : Env) → Fits items after env → (turns : ℕ)
       → (must ≡ false → Gives (Flows must_all) (rest env turns)) → Gives (Flows must_all) (then rest flow env turns)
@@ -107,9 +107,9 @@ module _ (items : List Item) (well : (n : ℕ) → IsWellTypedAt items n) (rows 
   then_gives after must rest must_all (Returns v) is env fit turns go = is
   then_gives after must rest must_all (Finishes changes) is env fit turns go = is
 
-  check_gives : (scope : Scope) (v : Value) → of ty.Bool v → (env : Env) → Fits items scope env → (turns : ℕ) → Gives (Goes_to scope false) (checked (truth v) env turns)
+  check_gives : (scope : Scope) (v : Value) → of ty.Bool v → (env : Env) → Fits items scope env → (turns : ℕ) → Gives (GoesTo scope false) (checked (truth v) env turns)
   check_gives scope v is env fit turns =
-      branch_gives (Goes_to scope false) (truth v) (truth_of (shapes_of items) v (as_bool items v is)) (ran Goes env) (λ turns. Ends (Check None)) turns (refl, fit) refl
+      branch_gives (GoesTo scope false) (truth v) (truth_of (shapes_of items) v (as_bool items v is)) (ran Goes env) (λ turns. Ends (Check None)) turns (refl, fit) refl
 
   expression_gives : {scope : Scope} {e : Expr} {t : NamedType} → HasType items context scope e t → expression_calls may e ≡ true → (env : Env) → Fits items scope env → (turns : ℕ) → Gives (of t) (says e env turns)
   expression_gives p may_call env fit turns = gives items well rows typed context setting suits may call keeps p may_call env fit turns
@@ -130,26 +130,26 @@ module _ (items : List Item) (well : (n : ℕ) → IsWellTypedAt items n) (rows 
 
   mutual
     pub runs : {scope after : Scope} {s : Stmt} → IsStmt items context scope s after → calls s ≡ true → (env : Env) → Fits items scope env → (turns : ℕ)
-        → Gives (Goes_to after (always_returns s)) (runs_of s env turns)
+        → Gives (GoesTo after (always_returns s)) (runs_of s env turns)
     runs {after = after} {s = s} (rules.stmt r) may_call env fit turns =
-        subst (Gives (Goes_to after (always_returns s))) (sym (ap (λ f. f env turns) (fold_out-Stmt Run (run_layer items says lists) s)))
-        (subst (λ must. Gives (Goes_to after must) (run_layer items says lists (map-Stmt Stmt Run runs_of (out-Stmt s)) env turns)) (sym (fold_out-Stmt Bool returns_layer s))
+        subst (Gives (GoesTo after (always_returns s))) (sym (ap (λ f. f env turns) (fold_out-Stmt Run (run_layer items says lists) s)))
+        (subst (λ must. Gives (GoesTo after must) (run_layer items says lists (map-Stmt Stmt Run runs_of (out-Stmt s)) env turns)) (sym (fold_out-Stmt Bool returns_layer s))
         (runs_layer r (sym (fold_out-Stmt Bool (statement_calls_layer may) s) ∙ may_call) env fit turns))
 
     runs_layer : {scope after : Scope} {layer : Stmt-F Stmt} → IsStmtByForm items context scope layer after → statement_calls_layer may (map-Stmt Stmt Bool calls layer) ≡ true
         → (env : Env) → Fits items scope env → (turns : ℕ)
-        → Gives (Goes_to after (returns_layer (map-Stmt Stmt Bool always_returns layer))) (run_layer items says lists (map-Stmt Stmt Run runs_of layer) env turns)
+        → Gives (GoesTo after (returns_layer (map-Stmt Stmt Bool always_returns layer))) (run_layer items says lists (map-Stmt Stmt Run runs_of layer) env turns)
     runs_layer (rules.introduces {scope = scope} {l = l} t p new) may_call env fit turns =
-        gives_then (of t) (Goes_to (with_name scope l.name t) false) (says l.value env turns) _ (expression_gives p may_call env fit turns) (λ v n is. (refl, fits_with items scope env fit l.name t v is))
+        gives_then (of t) (GoesTo (with_name scope l.name t) false) (says l.value env turns) _ (expression_gives p may_call env fit turns) (λ v n is. (refl, fits_with items scope env fit l.name t v is))
     runs_layer (rules.checks {scope = scope} {e = e} p) may_call env fit turns =
-        gives_then (of ty.Bool) (Goes_to scope false) (says e env turns) _ (expression_gives p may_call env fit turns) (λ v n is. check_gives scope v is env fit n)
+        gives_then (of ty.Bool) (GoesTo scope false) (says e env turns) _ (expression_gives p may_call env fit turns) (λ v n is. check_gives scope v is env fit n)
     runs_layer (rules.chooses {scope = scope} {x = x} head body otherwise) may_call env fit turns =
         let then_must : Bool = last_does (map always_returns x.then) in
         let else_must : Bool = else_returns (map_else always_returns x.otherwise) in
         and_then (expression_calls may x.head && all_hold (map calls x.then)) (else_stmt_calls may (map_else calls x.otherwise)) may_call (λ both last.
         and_then (expression_calls may x.head) (all_hold (map calls x.then)) both (λ first inner.
-        gives_then (of ty.Bool) (Goes_to scope (then_must && else_must)) (says x.head env turns) _ (expression_gives head first env fit turns) (λ v n is.
-        branch_gives (Goes_to scope (then_must && else_must)) (truth v) (truth_of (shapes_of items) v (as_bool items v is))
+        gives_then (of ty.Bool) (GoesTo scope (then_must && else_must)) (says x.head env turns) _ (expression_gives head first env fit turns) (λ v n is.
+        branch_gives (GoesTo scope (then_must && else_must)) (truth v) (truth_of (shapes_of items) v (as_bool items v is))
         (within (run_block (map runs_of x.then)) env) (within (else_run (map_else runs_of x.otherwise)) env) n
         (within_gives scope (then_must && else_must) (run_block (map runs_of x.then)) env fit n
         (weakened then_must (then_must && else_must) (and_left then_must else_must) (run_block (map runs_of x.then) env n) (runs_block body inner env fit n)))
@@ -158,26 +158,26 @@ module _ (items : List Item) (well : (n : ℕ) → IsWellTypedAt items n) (rows 
     runs_layer (rules.matches {scope = scope} {e = e} {arms = arms} t p patterns bodies) may_call env fit turns =
         let must : Bool = list_all (λ a. last_does a.body) (map (map_arm always_returns) arms) in
         and_then (expression_calls may e) (list_all (λ a. all_hold a.body) (map (map_arm calls) arms)) may_call (λ first inner.
-        gives_then (of t) (Goes_to scope must) (says e env turns) _ (expression_gives p first env fit turns) (λ v n is.
+        gives_then (of t) (GoesTo scope must) (says e env turns) _ (expression_gives p first env fit turns) (λ v n is.
         within_gives scope must (arm_run (first_body items v (map (map_arm runs_of) arms))) env fit n
         (runs_arms bodies inner v (one_takes items well t (map (λ a. a.pattern) arms) patterns v is) env fit n)))
     runs_layer (rules.finishes {scope = scope} {statements = statements} at p) may_call env fit turns =
-        gives_then (AreTypedChanges items) (Goes_to scope false) (lists statements env turns) _ (listed at scope statements p may_call env fit turns) (λ changes n are. ((at, are), fit))
+        gives_then (AreTypedChanges items) (GoesTo scope false) (lists statements env turns) _ (listed at scope statements p may_call env fit turns) (λ changes n are. ((at, are), fit))
     runs_layer (rules.maps at p new body) may_call env fit turns = absurd (no_action at)
     runs_layer (rules.publishes command at p names) may_call env fit turns = absurd (no_action at)
     runs_layer (rules.returns {scope = scope} {e = e} t result is p fit_result) may_call env fit turns =
-        gives_then (of t) (Goes_to scope true) (says e env turns) _ (expression_gives p may_call env fit turns) (λ v n is_v. ((result, is, widens items t result fit_result v is_v), fit))
+        gives_then (of t) (GoesTo scope true) (says e env turns) _ (expression_gives p may_call env fit turns) (λ v n is_v. ((result, is, widens items t result fit_result v is_v), fit))
 
     pub runs_block : {scope : Scope} {body : List Stmt} → IsBlock items context scope body → all_hold (map calls body) ≡ true → (env : Env) → Fits items scope env → (turns : ℕ)
         → Gives (Flows (ends_in_return body)) (run_block (map runs_of body) env turns)
     runs_block rules.no_stmts may_call env fit turns = refl
     runs_block (rules.more_stmts {s = s} {more = []} after p precedes rest) may_call env fit turns = and_then (calls s) true may_call (λ one others.
-        gives_then (Goes_to after (always_returns s)) (Flows (always_returns s)) (runs_of s env turns) _ (runs p one env fit turns) (λ r n is.
+        gives_then (GoesTo after (always_returns s)) (Flows (always_returns s)) (runs_of s env turns) _ (runs p one env fit turns) (λ r n is.
         then_gives after (always_returns s) (run_block []) (always_returns s) r.flow is.0 r.env is.1 n (λ goes. goes)))
     runs_block (rules.more_stmts {s = s} {more = next ∷ more} after p precedes rest) may_call env fit turns =
         let must : Bool = ends_in_return (next ∷ more) in
         and_then (calls s) (all_hold (map calls (next ∷ more))) may_call (λ one others.
-        gives_then (Goes_to after (always_returns s)) (Flows must) (runs_of s env turns) _ (runs p one env fit turns) (λ r n is.
+        gives_then (GoesTo after (always_returns s)) (Flows must) (runs_of s env turns) _ (runs p one env fit turns) (λ r n is.
         then_gives after (always_returns s) (run_block (map runs_of (next ∷ more))) must r.flow is.0 r.env is.1 n (λ goes. runs_block rest others r.env is.1 n)))
 
     runs_else : {scope : Scope} {o : Option (Else Stmt)} → IsElse items context scope o → else_stmt_calls may (map_else calls o) ≡ true → (env : Env) → Fits items scope env → (turns : ℕ)
@@ -186,7 +186,7 @@ module _ (items : List Item) (well : (n : ℕ) → IsWellTypedAt items n) (rows 
     runs_else (rules.else_block body) may_call env fit turns = runs_block body may_call env fit turns
     runs_else (rules.else_if {s = s} after p) may_call env fit turns =
         subst (Gives (Flows (always_returns s))) (same (runs_of s env turns))
-        (gives_then (Goes_to after (always_returns s)) (Flows (always_returns s)) (runs_of s env turns) (λ r turns. Done r turns) (runs p may_call env fit turns) (λ r n is. is.0))
+        (gives_then (GoesTo after (always_returns s)) (Flows (always_returns s)) (runs_of s env turns) (λ r turns. Done r turns) (runs p may_call env fit turns) (λ r n is. is.0))
 
     runs_arms : {scope : Scope} {arms : List (Arm Stmt)} → AreArms items context scope arms → list_all (λ a. all_hold a.body) (map (map_arm calls) arms) ≡ true → (v : Value)
         → list_any (takes items v) (map (λ a. a.pattern) arms) ≡ true → (env : Env) → Fits items scope env → (turns : ℕ)

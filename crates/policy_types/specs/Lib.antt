@@ -7,3 +7,4 @@ pub mod EndsWell
 pub mod ActsWell
 pub mod NeverStuck
 pub mod Resolved
+pub mod Ranks

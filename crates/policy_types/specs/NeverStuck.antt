@@ -9,6 +9,7 @@ use Rattle.policy_ast.specs.declared.pattern.Pattern.{Pattern}
 use Rattle.policy_ast.specs.declared.policy.PlacedItem.{PlacedItem}
 use Rattle.policy_meaning.specs.Actions.{Answer, acted}
 use Rattle.policy_meaning.specs.Blocks.{policy_block, recall_block}
+use Rattle.policy_meaning.specs.Commands.{call_judged}
 use Rattle.policy_meaning.specs.Desks.{Acts, Posting, answer, brought}
 use Rattle.policy_meaning.specs.Environments.{Env, Setting}
 use Rattle.policy_meaning.specs.Functions.{called, expression, finish}
@@ -30,7 +31,7 @@ use Rattle.policy_rules.specs.declared.types.NamedType.{NamedType}
 use Rattle.policy_types.specs.ActsWell.{ActsWell, AreCommands, LeaveTyped}
 use Rattle.policy_types.specs.Asked.{AsksFor}
 use Rattle.policy_types.specs.Endings.{Gives}
-use Rattle.policy_types.specs.EndsWell.{EndsWell}
+use Rattle.policy_types.specs.EndsWell.{EndsWell, JudgedWell}
 use Rattle.policy_types.specs.Fitting.{AreOf, Fits, IsOf, Suits, types_of}
 use Rattle.policy_types.specs.Listed.{AreTypedChanges}
 
@@ -68,10 +69,11 @@ FinishLists policy = (command : Name) (scope : Scope) (statements : List FinishS
     → list_all (finish_calls (may_be_called policy)) statements ≡ true → (rows : List Row) (setting : Setting) (env : Env) → StandsIn policy (in_command command) scope rows setting env → (turns : ℕ)
     → Gives (AreTypedChanges (items_of policy)) (finish (items_of policy) rows setting statements env turns)
 
--- The policy block and the recall block of a command with fields of the declared types, over typed facts.
+-- The policy block and the recall block of a command with fields of the declared types, over typed facts, and what the command comes to.
 pub record BlocksEndWell (policy : List PlacedItem) (call : Call) (rows : List Row) : Type 0 where
   pub policy_block : EndsWell policy (policy_block policy call rows)
   pub recall_block : EndsWell policy (recall_block policy call rows)
+  pub command : JudgedWell policy (call_judged policy rows (Some call))
 
 -- An action with arguments of the declared types, over typed facts: whatever typed facts the desk's answers leave, it goes well; and of each way in
 -- which it can end, all that it published are typed commands.

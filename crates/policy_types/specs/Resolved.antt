@@ -1,5 +1,5 @@
 -- What arguments resolve to is of the types that they are resolved at.
-use Rattle.std.specs.Prelude.{◌≡◌, ℕ, Bool, true, List, [], ◌∷◌, slice_get, Some}
+use Rattle.std.specs.Prelude.{◌≡◌, ℕ, true, List, [], ◌∷◌, slice_get, Some}
 use Rattle.base_bytes.specs.Values.{has_type}
 use Rattle.base_bytes.specs.declared.arg.Arg.{Arg}
 use Rattle.base_bytes.specs.declared.ty.Ty.{Ty}
