@@ -1,5 +1,5 @@
 -- A command is one call, or none: what is read of a payload is what it spells.
-use Rattle.std.proofs.Common.{◌≡◌, ◌==◌, ◌&&◌, ◌<◌, ℕ, Bool, true, false, List, [], map, length, get_or, Option, Some, None, option_map, option_and_then, refl, ap, sym, subst, ◌∙◌}
+use Rattle.std.proofs.Common.{◌≡◌, ◌==◌, ℕ, Bool, true, false, List, [], map, length, Option, Some, None, option_map, option_and_then, refl, ap, sym, subst, ◌∙◌}
 use Rattle.std.proofs.lemmas.Bool.{eqb-true, false≢true}
 use Rattle.std.proofs.lemmas.List.{nil_from_length}
 use Rattle.base_bytes.proofs.Bools.{and_then}
@@ -18,12 +18,11 @@ use Rattle.base_bytes.specs.declared.value.Value.TheOpen.{Value-F}
 use Rattle.base_bytes.specs.declared.value.Value.TheVariants as value
 use Rattle.base_bytes.specs.working.Decoding.{value_at}
 use Rattle.command.specs.Wire.{command_id}
-use Rattle.command.specs.declared.command.Command.{Command}
 use Rattle.policy_ast.specs.declared.item.Item.{Item}
 use Rattle.policy_ast.specs.declared.policy.PlacedItem.{PlacedItem}
 use Rattle.policy_meaning.proofs.PayloadFacts.{fields_read, payload_read}
-use Rattle.policy_meaning.specs.Commands.{AreSpelled, Content, IsCallBy, IsCallOf, IsCallOfContent, call_by, call_of, called, command_number, content_of, not_declared, not_spelled}
-use Rattle.policy_meaning.specs.Laws.{CommandsHaveOneCall, HasBytes, HasOneCall}
+use Rattle.policy_meaning.specs.Commands.{AreSpelled, Content, IsCallBy, IsCallOfContent, call_by, call_of, called, command_number, content_of, not_declared, not_spelled}
+use Rattle.policy_meaning.specs.Laws.{CommandsHaveOneCall, HasBytes}
 use Rattle.policy_meaning.specs.Values.{struct_layer}
 use Rattle.policy_meaning.specs.declared.call.Call.{Call}
 use Rattle.policy_meaning.specs.working.Payloads.{fields_of, payload_fields, read_value}

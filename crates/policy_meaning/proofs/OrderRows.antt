@@ -1,6 +1,6 @@
 -- What comes first, shown at single forms: arguments before the turn, turns before a write's fault, a fault instead of all writes, the first arm, and the rows
 -- of a `map` as it begins.
-use Rattle.std.proofs.Common.{◌≡◌, ℕ, Bool, true, false, List, [], ◌∷◌, map, Option, None, Some, Ok, Err, refl, ap}
+use Rattle.std.proofs.Common.{◌≡◌, ℕ, true, false, List, [], ◌∷◌, Option, None, Some, Ok, Err, refl}
 use Rattle.std.specs.Prelude.{codes, option_map, unwrap_or}
 use Rattle.base_bytes.specs.declared.value.Value.{Value}
 use Rattle.fact_store.specs.Matching.{selected}
@@ -15,20 +15,19 @@ use Rattle.policy_ast.specs.declared.finish.FinishStmt.{FinishStmt}
 use Rattle.policy_ast.specs.declared.finish.FinishStmt.TheVariants as finish
 use Rattle.policy_ast.specs.declared.item.Item.{Item}
 use Rattle.policy_ast.specs.declared.item.Item.TheVariants as item
-use Rattle.policy_ast.specs.declared.pattern.ArmPattern.TheVariants as arm_pattern
 use Rattle.policy_ast.specs.declared.pattern.Pattern.{Pattern}
 use Rattle.policy_ast.specs.declared.statement.Arm.{Arm}
 use Rattle.policy_ast.specs.declared.statement.Stmt.{Stmt}
 use Rattle.policy_ast.specs.declared.statement.Stmt.TheOpen.{Stmt-F}
-use Rattle.policy_meaning.specs.Actions.{◌>>>◌, Act, Answer, Brought, Deed, Did, Halts, IsRefused, Stops, World, act_layer, acts, answered, deed_end, each_row, published, world_of, with_turns}
-use Rattle.policy_meaning.specs.Applying.{Ended, Faults, Passes, applied, block_ended}
+use Rattle.policy_meaning.specs.Actions.{◌>>>◌, Act, Answer, Brought, Deed, Did, World, act_layer, acts, answered, deed_end, each_row, published, world_of, with_turns}
+use Rattle.policy_meaning.specs.Applying.{Faults, applied}
 use Rattle.policy_meaning.specs.Arms.{first_body, takes}
 use Rattle.policy_meaning.specs.Blocks.{rows_after}
 use Rattle.policy_meaning.specs.Environments.{Env, Setting, value_in}
 use Rattle.policy_meaning.specs.Expressions.{Calls, Meaning, meaning_layer}
 use Rattle.policy_meaning.specs.Finish.{Change, Create, Delete, Emit, FinishCalls, Listing, Update, all_listed, finish_entered, listing}
 use Rattle.policy_meaning.specs.Functions.{entered}
-use Rattle.policy_meaning.specs.Outcomes.{Check, Done, Ends, Fault, Halt, Out}
+use Rattle.policy_meaning.specs.Outcomes.{Check, Done, Ends, Fault}
 use Rattle.policy_meaning.specs.Patterns.{row_value, wanted_in}
 use Rattle.policy_meaning.specs.Statements.{Run}
 use Rattle.policy_meaning.specs.declared.effect.Effect.{Effect}
