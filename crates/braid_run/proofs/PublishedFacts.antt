@@ -1,8 +1,8 @@
 -- A command behind all others is the last of the braid, and a merge leaves the braid.
-use Rattle.std.proofs.Common.{◌≡◌, ℕ, zero, suc, ◌+◌, ◌⊎◌, inl, inr, Bool, true, false, if◌then◌else◌, length, take, drop, List, [], ◌∷◌, ◌++◌, slice_get, Some, refl, sym, ap, subst, ◌∙◌, arith, append_assoc, append-nil, length-append}
-use Rattle.std.specs.List.{Contains, list_any}
+use Rattle.std.proofs.Common.{◌≡◌, ℕ, zero, suc, ◌+◌, ◌<◌, ◌≤◌, ◌⊎◌, inl, inr, Bool, true, false, if◌then◌else◌, length, take, drop, List, [], ◌∷◌, ◌++◌, slice_get, Some, refl, sym, ap, subst, ◌∙◌, arith, append_assoc, append-nil, length-append}
+use Rattle.std.specs.List.{All, Contains, list_any}
 use Rattle.std.specs.Str.{bytes_eq}
-use Rattle.std.proofs.lemmas.List.Elements.{Contains-append_left, Contains-append_right, Contains-push, Contains-push_cases}
+use Rattle.std.proofs.lemmas.List.Elements.{All-cons, All-nil, Contains-append_left, Contains-append_right, Contains-push, Contains-push_cases}
 use Rattle.std.proofs.Math.Seq.{drop-append_seam, take-append_seam, take-length}
 use Rattle.std.proofs.lemmas.Option.{same_Some}
 use Rattle.braid.specs.Braids.{IsBraid, IsBraidOf, IsPlaced}
@@ -20,7 +20,7 @@ use Rattle.braid_run.specs.declared.entry.Entry.{Entry}
 use Rattle.braid_run.proofs.RunFacts.{raised, run_append, run_grows, run_raised}
 use Rattle.braid_run.proofs.StandingFacts.{behind_above}
 use Rattle.command.specs.Ancestors.{Ancestor, IsAt, IsParent, IsUnder, IsUpTo, heads, is_parent, places_without}
-use Rattle.command.specs.Ancestors.Ancestor.{Parent, Further}
+use Rattle.command.specs.Ancestors.Ancestor.{Parent}
 use Rattle.command.specs.Closed.{IsClosed, IsNext}
 use Rattle.command.specs.Kinds.{is_merge, parents_of}
 use Rattle.command.specs.Wire.{command_id}
@@ -228,3 +228,17 @@ module _ (cs : List Command) (closed : IsClosed cs) where
       let here : place ≡ u.0 = one_element place u.0 (subst (λ l. Contains l u.0) only u.1) in
       let same : u.2.0 ≡ tip = one_at cs place u.2.0 tip (subst (λ p. IsAt cs p u.2.0) (sym here) u.2.1) is in
       subst (λ z. IsUpTo cs z x) same u.2.2
+
+-- ---- heads are places
+
+one_within : (b : Bool) (n most : ℕ) (more : List ℕ) → n < most → All (λ p. p < most) more → All (λ p. p < most) ((if b then [] else n ∷ []) ++ more)
+one_within true n most more within all = all
+one_within false n most more within all = All-cons (λ p. p < most) n more within all
+
+places_within : (test : List ℕ → Bool) (n most : ℕ) (cs : List Command) → n + length cs ≤ most → All (λ p. p < most) (places_without test n cs)
+places_within test n most [] few = All-nil (λ p. p < most)
+places_within test n most (c ∷ cs) few =
+    one_within (test (command_id c)) n most (places_without test (n + 1) cs) (omega (arith, few)) (places_within test (n + 1) most cs (omega (arith, few)))
+
+pub heads_within : (cs : List Command) → All (λ place. place < length cs) (heads cs)
+heads_within cs = places_within (is_parent cs) 0 (length cs) cs (omega arith)

@@ -1,14 +1,13 @@
 -- What stands, and one command more.
-use Rattle.std.proofs.Common.{◌≡◌, ℕ, ◌≤◌, inl, inr, Bool, true, false, List, [], ◌∷◌, ◌++◌, length, Option, Some, refl, sym, ap, subst, ◌∙◌, arith, length-append}
-use Rattle.std.specs.List.{All, Contains}
+use Rattle.std.proofs.Common.{◌≡◌, ℕ, inl, inr, Bool, true, false, List, [], ◌∷◌, ◌++◌, Option, refl, sym, subst, ◌∙◌, arith, length-append}
+use Rattle.std.specs.List.{Contains}
 use Rattle.std.proofs.lemmas.List.Elements.{All-nil, All-push, Contains-append_left, Contains-push, Contains-push_cases}
 use Rattle.braid_run.specs.Places.{IsBehind}
 use Rattle.braid_run.specs.States.{HasOneInit, IsStanding, MayFollow}
 use Rattle.command.specs.Ancestors.{Ancestor, AreInLine, IsParent}
 use Rattle.command.specs.Ancestors.Ancestor.{Parent, Further}
-use Rattle.command.specs.Closed.{IsClosed, IsHeld, IsNext}
+use Rattle.command.specs.Closed.{IsHeld, IsNext}
 use Rattle.command.specs.Kinds.{is_finalize, is_init, parents_of}
-use Rattle.command.specs.Wire.{command_id}
 use Rattle.command.specs.declared.command.Command.{Command}
 use Rattle.command.specs.declared.command.Command.TheVariants.{Init, Basic, Finalize, Merge}
 use Rattle.command.proofs.AncestorFacts.{kept}

@@ -1,7 +1,7 @@
 //! The laws of runs, over the definitions alone. These functions do nothing; their contracts are the laws.
 
-ghost use Rattle.std.specs.Prelude.{◌≡◌, ℕ, true, List, [], ◌∷◌, ◌++◌, length, Option};
-ghost use Rattle.std.specs.List.{Contains};
+ghost use Rattle.std.specs.Prelude.{◌≡◌, ◌<◌, ℕ, true, List, [], ◌∷◌, ◌++◌, length, Option};
+ghost use Rattle.std.specs.List.{All, Contains};
 ghost use Rattle.braid.specs.Agreeing.{Agree};
 ghost use Rattle.braid_run.specs.Batches.{AreChanges, Change, all_followed, commands_behind};
 ghost use Rattle.braid_run.specs.Laws.{HasOneRun, HasPlace, HasTip, HaveOneRun, PlaceStays, StaysFinal};
@@ -11,7 +11,7 @@ ghost use Rattle.braid_run.specs.RunOf.{AreEntriesOf, IsRunOf};
 ghost use Rattle.braid_run.specs.Soundness.{AreLawful, GoesOn, IsLawful, IsSound, Terms};
 ghost use Rattle.braid_run.specs.States.{Held, IsStanding, MayFollow, extended};
 ghost use Rattle.braid_run.specs.declared.entry.Entry.{Entry};
-ghost use Rattle.command.specs.Ancestors.{AreInLine};
+ghost use Rattle.command.specs.Ancestors.{AreInLine, heads};
 ghost use Rattle.command.specs.Closed.{IsClosed, IsHeld};
 ghost use Rattle.command.specs.Kinds.{is_finalize, parents_of};
 ghost use Rattle.command.specs.declared.command.Command.{Command};
@@ -63,6 +63,11 @@ pub fn extensions_stay_sound()
         → ((id : List ℕ) → Contains (parents_of command) id → IsHeld commands id) → IsLawful terms commands command → IsLawful terms (commands ++ more) command }
     ensures state { (terms : Terms) (held : Held) (more : List Command) (cut : ℕ) (rows : List Row) (entries : List Entry) → IsStanding held.graph_id (held.commands ++ more)
         → IsSound terms held → GoesOn terms held.commands more cut rows entries → IsSound terms (extended held more cut rows entries) }
+{}
+
+/// The heads of a list are places of it, as the tips of a run have to be.
+pub fn heads_are_places()
+    ensures { (commands : List Command) → All (λ place. place < length commands) (heads commands) }
 {}
 
 /// Commands that are published run last: the run of all goes on from the facts and the entries held, and merges change nothing. Each is published
