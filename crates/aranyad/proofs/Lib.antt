@@ -29,3 +29,4 @@ pub mod SmallBlocks
 pub mod SmallActions
 pub mod SmallPayloads
 pub mod SmallCommands
+mod InstanceRows

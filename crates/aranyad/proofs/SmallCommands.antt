@@ -1,5 +1,5 @@
 -- What commands of the graph come to under a small policy, by the meaning of the whole language.
-use Rattle.std.proofs.Common.{◌≡◌, ℕ, ℤ, true, false, List, [], ◌∷◌, length, Option, Some, None, refl}
+use Rattle.std.proofs.Common.{◌≡◌, ℕ, ℤ, true, false, List, [], ◌∷◌, length, map, Option, Some, None, refl, ap}
 use Rattle.command.specs.Wire.{command_id}
 use Rattle.command.specs.declared.command.Command.{Command}
 use Rattle.command.specs.declared.command.Command.TheVariants as command
@@ -17,8 +17,8 @@ use Rattle.aranyad.specs.declared.first.policy.Item.TheVariants as item
 use Rattle.aranyad.specs.declared.first.policy.Start.{Start}
 use Rattle.aranyad.specs.declared.first.verdict.Verdict.{Verdict}
 use Rattle.aranyad.specs.declared.first.verdict.Verdict.TheVariants as verdicts
-use Rattle.aranyad.specs.first.Instances.{BlocksAreAlike, CommandsAreAlike, are_ascending, ended_as, fact_rows, judged_as, number_of}
-use Rattle.aranyad.specs.first.Meaning.{Emitted, basic_done, call_done, command_done, done, emitted, start_done, verdict}
+use Rattle.aranyad.specs.first.Instances.{BlocksAreAlike, CommandsAreAlike, all_judged, are_ascending, effects_of, entry_told, rows_after, rows_behind, told, ended_as, fact_rows, judged_as, number_of}
+use Rattle.aranyad.specs.first.Meaning.{Done, Emitted, ran_from, basic_done, call_done, command_done, done, emitted, start_done, verdict}
 use Rattle.aranyad.specs.first.Payload.{fields_of}
 use Rattle.aranyad.specs.first.Small.{each_of, small_item, trees_of}
 use Rattle.aranyad.specs.first.Sound.{Name, is_sound, item_named}
@@ -125,9 +125,59 @@ module _ (policy : List PlacedItem) (small : List Item) (are : each_of small_ite
   stays (command.Finalize parent author name payload tag) held ascending = call_stays small policy are alike [] author payload name held ascending (item_named small name)
   stays (command.Merge left right) held ascending = ascending
 
+  -- ---- runs
+
+  -- what a command comes to keeps the rows that are said, and tells what is said
+  abbrev Follows : List rows.Row → Done → Type 0
+  Follows held d = (rows_behind (judged_as small d) (fact_rows small held) ≡ fact_rows small d.rows) × (told (judged_as small d) ≡ Some (d.outcome, effects_of small d.effects))
+
+  verdict_follows : (held : List rows.Row) (effects : List Emitted) (v : Verdict) → Follows held (done held effects v)
+  verdict_follows held effects (verdicts.Pass after) = (refl, refl)
+  verdict_follows held effects verdicts.Check = (refl, refl)
+  verdict_follows held effects verdicts.Exists = (refl, refl)
+
+  basic_follows : (held : List rows.Row) (b : Basic) (author : List ℕ) (o : Option (List ℤ)) → Follows held (basic_done small b author held o)
+  basic_follows held b author None = (refl, refl)
+  basic_follows held b author (Some values) = verdict_follows held (emitted small b values b.emitted) (verdict b author values held)
+
+  start_follows : (held : List rows.Row) (o : Option (List ℤ)) → Follows held (start_done held o)
+  start_follows held None = (refl, refl)
+  start_follows held (Some values) = (refl, refl)
+
+  call_follows : (held : List rows.Row) (o : Option Item) (author payload : List ℕ) → Follows held (call_done small o author payload held)
+  call_follows held (Some (item.Basic b)) author payload = basic_follows held b author (fields_of (length b.fields) payload)
+  call_follows held (Some (item.Start s)) author payload = start_follows held (fields_of 0 payload)
+  call_follows held None author payload = (refl, refl)
+  call_follows held (Some (item.Fact f)) author payload = (refl, refl)
+  call_follows held (Some (item.Effect e)) author payload = (refl, refl)
+  call_follows held (Some (item.Action a)) author payload = (refl, refl)
+
+  follows : (held : List rows.Row) (c : Command) → Follows held (command_done small c held)
+  follows held (command.Init digest author name payload tag) = call_follows held (item_named small name) author payload
+  follows held (command.Basic priority parent author name payload tag) = call_follows held (item_named small name) author payload
+  follows held (command.Finalize parent author name payload tag) = call_follows held (item_named small name) author payload
+  follows held (command.Merge left right) = (refl, refl)
+
+  behind_is : (c : Command) (held : List rows.Row) → are_ascending held ≡ true → rows_behind (judged policy (fact_rows small held) c) (fact_rows small held) ≡ fact_rows small (command_done small c held).rows
+  behind_is c held ascending = rw (comes c held ascending) ((follows held c).0)
+
+  told_is : (c : Command) (held : List rows.Row) → are_ascending held ≡ true → told (judged policy (fact_rows small held) c) ≡ Some ((command_done small c held).outcome, effects_of small (command_done small c held).effects)
+  told_is c held ascending = rw (comes c held ascending) ((follows held c).1)
+
+  rows_from : (commands : List Command) (held : List rows.Row) → are_ascending held ≡ true → rows_after policy (fact_rows small held) commands ≡ fact_rows small (ran_from small held commands).rows
+  rows_from [] held ascending = refl
+  rows_from (c ∷ commands) held ascending = rw (behind_is c held ascending) (rows_from commands (command_done small c held).rows (stays c held ascending))
+
+  entries_from : (commands : List Command) (held : List rows.Row) → are_ascending held ≡ true → map told (all_judged policy (fact_rows small held) commands) ≡ map (entry_told small) (ran_from small held commands).entries
+  entries_from [] held ascending = refl
+  entries_from (c ∷ commands) held ascending = rw (behind_is c held ascending, told_is c held ascending) (ap (λ more. Some ((command_done small c held).outcome, effects_of small (command_done small c held).effects) ∷ more)
+      (entries_from commands (command_done small c held).rows (stays c held ascending)))
+
 pub commands_are_alike : (policy : List PlacedItem) (small : List Item) → each_of small_item (trees_of policy) ≡ Some small → is_sound small ≡ true → CommandsAreAlike policy small
 commands_are_alike policy small are sound_too = record {
   spelled = payload_is_spelling;
   comes_to = comes policy small are (blocks_are_alike policy small are sound_too);
   stays = stays policy small are (blocks_are_alike policy small are sound_too);
+  rows = λ commands. rows_from policy small are (blocks_are_alike policy small are sound_too) commands [] refl;
+  entries = λ commands. entries_from policy small are (blocks_are_alike policy small are sound_too) commands [] refl;
 }

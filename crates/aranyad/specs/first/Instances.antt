@@ -22,7 +22,7 @@ use Rattle.policy_meaning.specs.declared.ends.Posted.TheVariants as posted
 use Rattle.aranyad.specs.declared.first.facts.Row as small
 use Rattle.aranyad.specs.declared.first.verdict.Verdict.{Verdict}
 use Rattle.aranyad.specs.declared.first.verdict.Verdict.TheVariants as verdicts
-use Rattle.aranyad.specs.first.Meaning.{Done, Emitted, Outcome, command_done, constructed, emitted, verdict}
+use Rattle.aranyad.specs.first.Meaning.{Done, Emitted, Entry, Outcome, ran, command_done, constructed, emitted, verdict}
 use Rattle.aranyad.specs.first.Meaning as meant
 use Rattle.aranyad.specs.first.Payload.{payload_of}
 use Rattle.base_bytes.specs.Values.{fits_int}
@@ -35,6 +35,7 @@ use Rattle.aranyad.specs.declared.first.policy.Basic.{Basic}
 use Rattle.aranyad.specs.declared.first.policy.Item.{Item}
 use Rattle.aranyad.specs.declared.first.policy.Item.TheVariants as item
 use Rattle.aranyad.specs.declared.first.policy.Start.{Start}
+use Rattle.aranyad.specs.first.Small.{small_policy, trees_of}
 use Rattle.aranyad.specs.first.Sound.{Name, is_fact, is_sound, is_start, item_named, name_of}
 
 -- ---- types
@@ -47,7 +48,7 @@ given_names (item.Start s) = s.name ∷ []
 given_names (item.Basic b) = b.name ∷ b.author ∷ b.fields
 given_names (item.Action a) = a.name ∷ a.parameters
 
--- each name that is given is one of the grammar, as in each document that is read
+-- each name that is given is one of the grammar, as all names of a tree are by their type
 abbrev pub are_spelled : List Item → Bool
 are_spelled items = list_all (λ i. list_all (is_name Two) (given_names i)) items
 
@@ -56,7 +57,7 @@ abbrev pub bounds_of_item_fit : Item → Bool
 bounds_of_item_fit (item.Basic b) = list_all (λ c. fits_int c.bound) b.checks
 bounds_of_item_fit other = true
 
--- the bounds of all checks are, as in each document that is read
+-- the bounds of all checks are, as all numbers of a tree are by their type
 abbrev pub bounds_fit : List Item → Bool
 bounds_fit items = list_all bounds_of_item_fit items
 
@@ -66,6 +67,9 @@ has_small_shape items = (count_by is_fact items == 1) && (count_by is_start item
 
 -- items are a small policy exactly where the rules of the whole language take them, and they have the shape of one
 pub record IsTypedAlike (policy : List PlacedItem) (small : List Item) : Type 0 where
+  -- so it is for trees as their types let them be
+  pub chosen : are_spelled small ≡ true → bounds_fit small ≡ true → (small_policy (trees_of policy) ≡ Some (record { items = small })) ↔ ((has_small_shape small ≡ true) × IsWellTyped policy)
+  -- and this of all trees: small definitions ask for names of the grammar, and the rules for bounds of 64 bits
   pub alike : ((is_sound small ≡ true) × (bounds_fit small ≡ true)) ↔ ((has_small_shape small ≡ true) × (are_spelled small ≡ true) × IsWellTyped policy)
 
 -- ---- rows
@@ -166,6 +170,33 @@ outcome_as items d meant.Void = Void
 abbrev pub judged_as : List Item → Done → Judged
 judged_as items d = outcome_as items d d.outcome
 
+-- the rows behind a command that was judged so
+abbrev pub rows_behind : Judged → List Row → List Row
+rows_behind (Pass after effects) rows = after
+rows_behind (Recalled after effects) rows = after
+rows_behind other rows = rows
+
+-- what commands come to, one after another, each over the rows that those before it left
+abbrev pub all_judged : List PlacedItem → List Row → List Command → List Judged
+all_judged policy rows [] = []
+all_judged policy rows (c ∷ commands) = judged policy rows c ∷ all_judged policy (rows_behind (judged policy rows c) rows) commands
+
+-- the rows that they leave
+abbrev pub rows_after : List PlacedItem → List Row → List Command → List Row
+rows_after policy rows [] = rows
+rows_after policy rows (c ∷ commands) = rows_after policy (rows_behind (judged policy rows c) rows) commands
+
+-- an outcome and the effects with it
+abbrev pub told : Judged → Option (Outcome × List Effect)
+told (Pass after effects) = Some (meant.Passed, effects)
+told (Recalled after effects) = Some (meant.Recalled, effects)
+told Void = Some (meant.Void, [])
+told other = None
+
+-- what an entry of a run tells
+abbrev pub entry_told : List Item → Entry → Option (Outcome × List Effect)
+entry_told items e = Some (e.outcome, effects_of items e.effects)
+
 -- commands of the graph come to the same
 pub record CommandsAreAlike (policy : List PlacedItem) (items : List Item) : Type 0 where
   -- the payload of int fields is the spelling of their struct, whatever its number
@@ -174,3 +205,6 @@ pub record CommandsAreAlike (policy : List PlacedItem) (items : List Item) : Typ
   pub comes_to : (c : Command) (rows : List small.Row) → are_ascending rows ≡ true → judged policy (fact_rows items rows) c ≡ judged_as items (command_done items c rows)
   -- and the rows that it leaves ascend again
   pub stays : (c : Command) (rows : List small.Row) → are_ascending rows ≡ true → are_ascending (command_done items c rows).rows ≡ true
+  -- so a run of commands leaves the same rows, and tells the same entry by entry
+  pub rows : (commands : List Command) → rows_after policy [] commands ≡ fact_rows items (ran items commands).rows
+  pub entries : (commands : List Command) → map told (all_judged policy [] commands) ≡ map (entry_told items) (ran items commands).entries
