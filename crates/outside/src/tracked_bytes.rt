@@ -1,18 +1,19 @@
-// Bytes that are written in place, with what the writes since the last sync replaced.
+// Bytes that are written in place, with a record of all calls and of what each write replaced.
 ghost use Rattle.std.specs.Prelude.{◌≡◌, ◌≤◌, length, reverse, take, drop, OnOk, OnErr};
 ghost use Rattle.outside.specs.Disk.{IsImage, overwritten, content_at_rest, after_part, after_sync};
 ghost use Rattle.outside.specs.working.Replaced.{moment_after};
 
+use crate::call::Call;
 use crate::replaced::Replaced;
 use base_bytes::{Bytes, NoMemory};
 use std::alloc::Global;
 
-/// The bytes, and the writes since the last sync, the latest last.
+/// The bytes, and the calls that changed them or what a crash may leave of them, the latest last.
 #[derive(Drop)]
 pub struct TrackedBytes {
     bytes: Vec<u8>,
-    writes: Vec<Replaced>,
-    ghost image: { IsImage (moment_after (reverse writes.items) bytes.items) bytes.items },
+    calls: Vec<Call>,
+    ghost image: { IsImage (moment_after (reverse calls.items) bytes.items) bytes.items },
 }
 
 // The bytes from this place on, so many or all of fewer.
@@ -45,7 +46,7 @@ impl TrackedBytes {
     {
         TrackedBytes {
             bytes: bytes.into_vec(),
-            writes: Vec::new(alloc),
+            calls: Vec::new(alloc),
         }
     }
 
@@ -69,7 +70,7 @@ impl TrackedBytes {
         ensures err { OnErr result (tracked_content self.new ≡ tracked_content self.old) }
     {
         let under = Bytes::from_slice(alloc, front_at(self.bytes.as_slice(), at, front.len()))?;
-        self.writes.reserve(1)?;
+        self.calls.reserve(1)?;
         overwrite(&mut self.bytes, at, front)?;
         let write = Replaced {
             at,
@@ -77,14 +78,16 @@ impl TrackedBytes {
             under,
             range_length,
         };
-        self.writes.push(write).unwrap();
+        self.calls.push(Call::Wrote(write)).unwrap();
         Ok(())
     }
 
-    /// Forgets what the writes replaced. Takes no memory.
-    pub fn sync(&mut self)
-        ensures { tracked_content self.new ≡ after_sync (tracked_content self.old) }
+    /// Records that all was made sure of. Without memory it does nothing.
+    pub fn sync(&mut self) -> Result<(), NoMemory>
+        ensures ok { OnOk result (tracked_content self.new ≡ after_sync (tracked_content self.old)) }
+        ensures err { OnErr result (tracked_content self.new ≡ tracked_content self.old) }
     {
-        self.writes.clear();
+        self.calls.push(Call::Synced)?;
+        Ok(())
     }
 }

@@ -1,0 +1,4 @@
+-- The definitions that the contracts of this crate cite, in the order in which they are read.
+pub mod Fitting
+pub mod Endings
+pub mod Asked
