@@ -25,3 +25,8 @@ pub mod SmallTyped
 pub mod SmallRows
 pub mod SmallPlaces
 pub mod SmallMeaning
+pub mod SmallBlocks
+pub mod SmallActions
+pub mod SmallPayloads
+pub mod SmallCommands
+mod InstanceRows

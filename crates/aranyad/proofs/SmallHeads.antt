@@ -84,7 +84,7 @@ no_let items name = rw (item_is_named items name) (is_no_let (trees items) (soun
 abbrev pub int_named : List Name → List Named
 int_named names = map (λ n. record { name = n; ty = ty.Int }) names
 
-int_written : written_type field_type.Int ≡ ty.Int
+pub int_written : written_type field_type.Int ≡ ty.Int
 int_written = simp tree_rules
 
 id_written : written_type field_type.Ident ≡ ty.Ident

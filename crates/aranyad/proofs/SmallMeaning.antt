@@ -77,6 +77,11 @@ module _ (items : List Tree) (rows : List Row) (setting : Setting) (call : Calls
       ap (λ m. m env turns) (fold-expr-Struct layer name binds)
       ∙ rw (bind_names (meaning items rows setting call) binds, bind_values (meaning items rows setting call) binds) refl
 
+-- the one statement of a block is a `finish` that writes nothing
+pub empty_runs : (items : List Tree) (says : Expr → Meaning) (lists : List FinishStmt → Listing) (env : Env) (turns : ℕ)
+    → run items says lists (stmt.Finish []) env turns ≡ (lists [] env turns >>= λ changes turns. ran (Finishes changes) env turns)
+empty_runs items says lists env turns = ap (λ r. r env turns) (fold-stmt-Finish (run_layer items says lists) [])
+
 -- ---- values of fields
 
 value_named_is : (names : List Name) (values : List ℤ) (name : Name) → length values ≡ length names → is_among name names ≡ true
@@ -102,7 +107,7 @@ module _ (small : List Item) (n : ℕ) (b : Basic) (at : slice_get small n ≡ S
     abbrev says : Expr → Meaning
     says = meaning (trees small) rows setting call
 
-    this_says : (field : Name) (env : Env) (turns : ℕ) → is_among field b.fields ≡ true → says (this_tree field) env turns ≡ Done (value.Int (value_of b.fields values field)) turns
+    pub this_says : (field : Name) (env : Env) (turns : ℕ) → is_among field b.fields ≡ true → says (this_tree field) env turns ≡ Done (value.Int (value_of b.fields values field)) turns
     this_says field env turns among = rw (says_field (trees small) rows setting call env turns expr.This field, says_this (trees small) rows setting call env turns, is_this, field_is field among) refl
 
     number_says : (m : ℤ) (env : Env) (turns : ℕ) → says (expr.Literal (literal.Number m)) env turns ≡ Done (value.Int m) turns
@@ -130,7 +135,7 @@ module _ (small : List Item) (n : ℕ) (b : Basic) (at : slice_get small n ≡ S
           by true = refl
           by false = refl
 
-      checks_run : (all : List checks.Check) (more : List Run) (env : Env) (turns : ℕ) → list_all (λ c. is_among c.field b.fields) all ≡ true
+      pub checks_run : (all : List checks.Check) (more : List Run) (env : Env) (turns : ℕ) → list_all (λ c. is_among c.field b.fields) all ≡ true
           → block (map runs (map check_tree all) ++ more) env turns ≡ (if list_all (check_holds b values) all then block more env turns else Ends (Check None))
       checks_run [] more env turns among = refl
       checks_run (c ∷ all) more env turns among = and_then (is_among c.field b.fields) (list_all (λ c. is_among c.field b.fields) all) among (λ here rest.
@@ -152,14 +157,14 @@ module _ (small : List Item) (n : ℕ) (b : Basic) (at : slice_get small n ≡ S
       finish_runs stmts env turns = ap (λ r. r env turns) (fold-stmt-Finish (run_layer (trees small) says lists) stmts)
 
       -- what follows the checks
-      ending_runs : (author : Name) (id : List ℕ) (stmts : List FinishStmt) (changes : List Change) (turns : ℕ) → setting.author ≡ Some id
+      pub ending_runs : (author : Name) (id : List ℕ) (stmts : List FinishStmt) (changes : List Change) (turns : ℕ) → setting.author ≡ Some id
           → lists stmts (record { name = author; value = value.Ident id } ∷ []) turns ≡ Done changes turns
           → block (map runs (ending_trees author stmts)) [] turns ≡ ran (Finishes changes) (record { name = author; value = value.Ident id } ∷ []) turns
       ending_runs author id stmts changes turns is listed = rw (let_runs author id turns is, finish_runs stmts (record { name = author; value = value.Ident id } ∷ []) turns, listed) refl
 
     -- ---- struct literals
 
-    parts_say : (binds : List Bind) (env : Env) (turns : ℕ) → list_all (λ c. is_among c.part b.fields) binds ≡ true
+    pub parts_say : (binds : List Bind) (env : Env) (turns : ℕ) → list_all (λ c. is_among c.part b.fields) binds ≡ true
         → all_in_order (map says (map (λ b. b.value) (map (bind_tree source.This) binds))) env turns ≡ Done (int_values (map (λ c. value_of b.fields values c.part) binds)) turns
     parts_say [] env turns among = refl
     parts_say (c ∷ binds) env turns among = and_then (is_among c.part b.fields) (list_all (λ c. is_among c.part b.fields) binds) among (λ here rest.
@@ -180,14 +185,14 @@ bound_value (b ∷ binds) names values field among =
     by more true is = refl
     by more false is = more (either (bytes_eq field b.field) (is_among field (map (λ b. b.field) binds)) among (λ one. absurd (false≢true (sym is ∙ one))) (λ other. other))
 
-bound_in_order : (fields : List Name) (binds : List Bind) (names : List Name) (values : List ℤ) → list_all (λ field. is_among field (map (λ b. b.field) binds)) fields ≡ true
+pub bound_in_order : (fields : List Name) (binds : List Bind) (names : List Name) (values : List ℤ) → list_all (λ field. is_among field (map (λ b. b.field) binds)) fields ≡ true
     → in_order fields (bound (map (λ b. b.field) binds) (int_values (map (λ b. value_of names values b.part) binds))) ≡ Some (int_values (constructed fields binds names values))
 bound_in_order [] binds names values among = refl
 bound_in_order (f ∷ fields) binds names values among = and_then (is_among f (map (λ b. b.field) binds)) (list_all (λ field. is_among field (map (λ b. b.field) binds)) fields) among (λ here rest.
     rw (bound_value binds names values f here, bound_in_order fields binds names values rest) refl)
 
 -- a struct of ints
-struct_is : (small : List Item) (name : Name) (number : ℕ) (fields : List Name) (binds : List Bind) (names : List Name) (values : List ℤ)
+pub struct_is : (small : List Item) (name : Name) (number : ℕ) (fields : List Name) (binds : List Bind) (names : List Name) (values : List ℤ)
     → number_named (trees small) name ≡ Some number → struct_named (trees small) name ≡ Some (int_named fields)
     → list_all (λ field. is_among field (map (λ b. b.field) binds)) fields ≡ true
     → struct_value (trees small) name (bound (map (λ b. b.field) binds) (int_values (map (λ b. value_of names values b.part) binds))) ≡ Some (value.Struct number (int_values (constructed fields binds names values)))

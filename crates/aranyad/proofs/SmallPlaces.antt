@@ -1,5 +1,5 @@
 -- The numbers of items, in a small policy and in its trees.
-use Rattle.std.proofs.Common.{◌≡◌, ℕ, zero, suc, ◌+◌, ◌≤◌, ◌==◌, nat_lt, Bool, true, false, not, if◌then◌else◌, List, [], ◌∷◌, length, slice_get, find, count_by, position, Some, None, option_map, unwrap_or, refl, sym, ◌∙◌, arith}
+use Rattle.std.proofs.Common.{◌≡◌, ℕ, zero, suc, ◌+◌, ◌≤◌, ◌==◌, nat_lt, Bool, true, false, not, if◌then◌else◌, List, [], ◌∷◌, length, slice_get, find, count_by, position, Some, None, option_map, refl, sym, ◌∙◌, arith}
 use Rattle.std.specs.List.{position_or_len}
 use Rattle.std.specs.Str.{bytes_eq}
 use Rattle.std.proofs.lemmas.Bool.{eqb-true, lt-ltb, ltb-true}
@@ -8,7 +8,7 @@ use Rattle.std.proofs.lemmas.Option.{same_Some}
 use Rattle.policy_meaning.proofs.Positions.{position_behind}
 use Rattle.policy_rules.specs.Names.{is_named, number_named}
 use Rattle.aranyad.specs.declared.first.policy.Item.{Item}
-use Rattle.aranyad.specs.first.Instances.{fact_number}
+use Rattle.aranyad.specs.first.Instances.{fact_number, number_of}
 use Rattle.aranyad.specs.first.Sound.{Name, is_fact, item_named, name_of}
 use Rattle.aranyad.proofs.SmallHeads.{alike, named_is, trees}
 use Rattle.aranyad.proofs.SmallTrees.{tree_of}
@@ -74,9 +74,6 @@ only_place test (y ∷ xs) (suc k) x at is one =
     by least more false one = rw (more one) refl
 
 -- ---- items
-
-abbrev pub number_of : List Item → Name → ℕ
-number_of items name = unwrap_or (position (λ i. bytes_eq (name_of i) name) items) 0
 
 number_in_trees : (items : List Item) (name : Name) → number_named (trees items) name ≡ position (λ i. bytes_eq (name_of i) name) items
 number_in_trees items name =

@@ -6,7 +6,7 @@ use Rattle.std.proofs.lemmas.Bool.{false≢true}
 use Rattle.std.proofs.lemmas.Option.{same_Some, slice_get-map}
 use Rattle.std.proofs.lemmas.Slice.Eq.{bytes_eq-Decides}
 use Rattle.base_bytes.proofs.Bools.{and_both, and_then, or_left}
-use Rattle.base_bytes.proofs.Formats.{map_then}
+use Rattle.base_bytes.proofs.Formats.{if_then, map_then}
 use Rattle.base_bytes.specs.Values.{fits_int}
 use Rattle.policy_ast.specs.declared.item.Item.{Item as Tree}
 use Rattle.policy_ast.specs.declared.version.Version.TheVariants.{Two}
@@ -17,7 +17,7 @@ use Rattle.policy_rules.specs.Calls.{may_chain}
 use Rattle.policy_rules.specs.Items.{IsItem, is_free_name}
 use Rattle.policy_rules.specs.Names as names
 use Rattle.policy_rules.specs.Nesting.{may_nest}
-use Rattle.policy_rules.specs.WellTyped.{IsWellTypedAt}
+use Rattle.policy_rules.specs.WellTyped.{IsWellTyped, IsWellTypedAt}
 use Rattle.policy_rules.specs.working.ItemJudging.{is_of_kind, item_is}
 use Rattle.aranyad.specs.declared.first.policy.Action.{Action}
 use Rattle.aranyad.specs.declared.first.policy.Basic.{Basic}
@@ -26,8 +26,9 @@ use Rattle.aranyad.specs.declared.first.policy.Effect.{Effect}
 use Rattle.aranyad.specs.declared.first.policy.Fact.{Fact}
 use Rattle.aranyad.specs.declared.first.policy.Item.{Item}
 use Rattle.aranyad.specs.declared.first.policy.Item.TheVariants as item
+use Rattle.aranyad.specs.declared.first.policy.SmallPolicy.{SmallPolicy}
 use Rattle.policy_ast.specs.declared.policy.PlacedItem.{PlacedItem}
-use Rattle.aranyad.specs.first.Small.{each_of, small_item, trees_of}
+use Rattle.aranyad.specs.first.Small.{each_of, small_item, small_policy, sound_policy, trees_of}
 use Rattle.aranyad.specs.first.Instances.{IsTypedAlike, are_spelled, bounds_fit, bounds_of_item_fit, given_names, has_small_shape}
 use Rattle.aranyad.specs.first.Sound as sound
 use Rattle.aranyad.specs.first.Sound.{Name, are_distinct, body_is_sound, is_among, is_fact, is_sound, is_start, item_is_sound, item_named, name_of}
@@ -384,9 +385,24 @@ module _ (items : List Item) where
         (rw (one_fact, one_start, typed_distinct three.2) (sound_from_typed three.2 three.1), bounds_from_typed three.2)),
   )
 
+-- the policy that is chosen
+sound_then : (items : List Item) (p : SmallPolicy) → sound_policy items ≡ Some p → is_sound items ≡ true
+sound_then items p is = if_then (is_sound items) (Some (record { items = items })) p is (λ sound_too same. sound_too)
+
+chosen_is : (trees : List Tree) (items : List Item) → each_of small_item trees ≡ Some items → small_policy trees ≡ sound_policy items
+unfolding small_policy
+chosen_is trees items are = rw are refl
+
 -- small items of a document are sound exactly where the rules take them
 pub small_is_typed : (policy : List PlacedItem) (items : List Item) → each_of small_item (trees_of policy) ≡ Some items → IsTypedAlike policy items
 small_is_typed policy items are = record {
-  alike = subst (λ all. ((is_sound items ≡ true) × (bounds_fit items ≡ true)) ↔ ((has_small_shape items ≡ true) × (are_spelled items ≡ true) × WellTyped all))
-      (sym (items_are (trees_of policy) items are)) (typed_alike items);
+  chosen = λ spelled fit. (
+    λ is. let three = law.0 (sound_then items (record { items = items }) (sym (chosen_is (trees_of policy) items are) ∙ is), fit) in (three.0, three.2),
+    λ both. let is_too = (law.1 (both.0, spelled, both.1)).0 in chosen_is (trees_of policy) items are ∙ rw is_too refl,
+  );
+  alike = law;
 }
+  where
+    law : ((is_sound items ≡ true) × (bounds_fit items ≡ true)) ↔ ((has_small_shape items ≡ true) × (are_spelled items ≡ true) × IsWellTyped policy)
+    law = subst (λ all. ((is_sound items ≡ true) × (bounds_fit items ≡ true)) ↔ ((has_small_shape items ≡ true) × (are_spelled items ≡ true) × WellTyped all))
+        (sym (items_are (trees_of policy) items are)) (typed_alike items)

@@ -89,7 +89,7 @@ any_order : (fields : List Name) (binds : List Bind) → in_any_order (int_named
 any_order fields binds = rw (distinct_same (map (λ b. b.field) binds), ints_fit fields binds, names_in_ints fields)
     (and_all (sound.are_distinct (map (λ b. b.field) binds)) (list_all (λ b. is_among b.field fields) binds) (list_all (λ field. is_among field (map (λ b. b.field) binds)) fields))
 
-bound_names : (from : Source) (binds : List Bind) → map (λ b. b.name) (map (bind_tree from) binds) ≡ map (λ b. b.field) binds
+pub bound_names : (from : Source) (binds : List Bind) → map (λ b. b.name) (map (bind_tree from) binds) ≡ map (λ b. b.field) binds
 bound_names from [] = refl
 bound_names from (b ∷ binds) = ap (λ more. b.field ∷ more) (bound_names from binds)
 
