@@ -2,6 +2,9 @@
 
 pub mod pieces;
 pub mod refusal;
+pub mod refusals;
+pub mod replies;
+pub mod shown;
 pub mod shown_command;
 pub mod values;
 pub mod words;
