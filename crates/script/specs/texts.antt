@@ -3,3 +3,4 @@ pub mod Values
 pub mod Refusals
 pub mod Replies
 pub mod Shown
+pub mod Modes

@@ -17,7 +17,7 @@ mod quoted;
 mod reading;
 mod runs;
 mod seen;
-mod texts;
+pub mod texts;
 
 pub use fault::ScriptFault;
 pub use laws::{bytes_are_one_line, scripts_have_one_reading};

@@ -1,6 +1,6 @@
 //! Values, with a policy's names in them.
 
-ghost use Rattle.std.specs.Prelude.{◌≡◌, ◌++◌, ◌∷◌, [], OnOk, codes};
+ghost use Rattle.std.specs.Prelude.{◌≡◌, ◌++◌, ◌∷◌, [], IfOk, OnOk, codes};
 ghost use Rattle.std.specs.List.{concat, flat_map};
 ghost use Rattle.hex.specs.Hex.{encode_lower};
 ghost use Rattle.script.specs.texts.Values.{field_texts, named_value, names_and_values, quoted_byte, struct_fields, truth_word, value_text};
@@ -8,6 +8,15 @@ ghost use Rattle.script.specs.texts.Values.{field_texts, named_value, names_and_
 use super::pieces::push_all;
 use base_bytes::{Arg, Bytes, NoMemory, Text};
 use std::alloc::Global;
+
+/// The text of a value. It is also how a script writes the value as an argument.
+pub fn value_text(alloc: Global, value: &Arg) -> Result<Bytes, NoMemory>
+    ensures { IfOk result (λ text. text ≡ value_text value.now) }
+{
+    let mut text = Bytes::new(alloc);
+    push_value(alloc, &mut text, value)?;
+    Ok(text)
+}
 
 /// Adds the text of a value.
 #[cycle(values)]
