@@ -6,5 +6,4 @@ pub mod Lines
 pub mod Scripts
 pub mod Answers
 pub mod Laws
-pub mod texts
 pub mod working

@@ -1,4 +1,4 @@
-//! Scripts: the lines that a script's bytes are, and the texts that a run prints.
+//! Scripts: the lines that a script's bytes are, and the first line that may not stand where it does.
 #![tactic(auto)]
 
 mod arguments;
@@ -17,7 +17,6 @@ mod quoted;
 mod reading;
 mod runs;
 mod seen;
-pub mod texts;
 
 pub use fault::ScriptFault;
 pub use laws::{bytes_are_one_line, scripts_have_one_reading};

@@ -1,4 +1,0 @@
-use Rattle.script.proofs.texts.modes.no_subject_text.Goals as goal
-
-pub returns : goal.returns
-returns c = rw c.as_str.ensures at c.joined.ensures

@@ -1,7 +1,0 @@
-use Rattle.std.proofs.Common.{◌≡◌, ◌++◌, drop}
-use Rattle.std.specs.List.{flat_map}
-use Rattle.script.specs.texts.Values.{quoted_byte}
-use Rattle.script.proofs.texts.values.push_bytes.Given as goal
-
-abbrev pub invariant-loop-byte : goal.invariant-loop-byte
-invariant-loop-byte l = l.into ++ flat_map quoted_byte (drop l.byte-index l.text) ≡ l.initial.into ++ flat_map quoted_byte l.text
