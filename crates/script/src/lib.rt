@@ -1,4 +1,4 @@
-//! Scripts: the lines that a script's bytes are, and the texts that a run prints.
+//! Scripts: the lines that a script's bytes are, and the first line that may not stand where it does.
 #![tactic(auto)]
 
 mod arguments;
