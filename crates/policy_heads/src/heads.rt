@@ -2,7 +2,8 @@ ghost use Rattle.std.specs.Prelude.{◌≡◌, ◌||◌, [], ◌∷◌, map, tru
 ghost use Rattle.policy_ast.specs.declared.item.Item.{Item};
 ghost use Rattle.std.specs.Option.{is_some, option_copied, option_or};
 ghost use Rattle.base_bytes.specs.Values.{fits_int, fits_text};
-ghost use Rattle.policy_rules.specs.Heads.{enum_named, fact_named, finish_function_named, function_named, is_command, is_effect, let_named, literal_type, names_item, struct_named, type_exists};
+ghost use Rattle.policy_rules.specs.Heads.{enum_named, fact_named, finish_function_named, function_named, is_command, is_effect, let_named, literal_type, names_item, struct_named, type_exists, written_fields};
+ghost use Rattle.policy_rules.specs.Types.{declared};
 ghost use Rattle.policy_rules.specs.Names.{is_among, is_named, item_named, name_of, number_named};
 ghost use Rattle.policy_rules.specs.Scopes.{let_name, let_names};
 ghost use Rattle.policy_rules.specs.WellTyped.{items_of};
@@ -320,5 +321,21 @@ impl<'a> Heads<'a> {
         ensures { (i : Item) → slice_get self.now number ≡ Some i → result.now ≡ kept_fields i }
     {
         self.heads[number].fields()
+    }
+
+    /// The item of this number.
+    pub fn item_at(&self, number: usize) -> &'a Item
+        requires { number < length self.now }
+        ensures { slice_get self.now number ≡ Some result.now }
+    {
+        self.heads[number].item()
+    }
+
+    /// The fields of the item of this number, where it is a struct type.
+    pub fn struct_at(&self, number: usize) -> Option<&[Named]>
+        requires { number < length self.now }
+        ensures { (i : Item) → slice_get self.now number ≡ Some i → option_copied result ≡ option_map declared (written_fields i) }
+    {
+        self.heads[number].struct_fields()
     }
 }
