@@ -1,19 +1,30 @@
--- What tokens are parsed as, which is one policy or one fault; and the outcomes that hang on it.
-use Rattle.std.proofs.Common.{◌≡◌, ℕ, List, [], ◌∷◌, length, Option, Some, None, Result, Ok, Err, codes, sym, ap, subst, arith}
+-- What a policy's file is taken for, which is one thing; and the outcomes that hang on it.
+use Rattle.std.proofs.Common.{◌≡◌, ◌⊎◌, ℕ, List, [], ◌∷◌, length, Option, Some, None, Result, Ok, Err, codes, inl, inr, refl, sym, ap, subst, ◌∙◌, arith}
+use Rattle.std.specs.Prelude.{IfOk, IfSome, MatchOption}
 use Rattle.outside.specs.Files.{Holding}
-use Rattle.policy_ast.specs.DocumentTokens.{document_tokens}
+use Rattle.sha2.specs.Sha256.{sha256}
+use Rattle.policy_ast.specs.DocumentFault.{DocumentFault}
+use Rattle.policy_ast.specs.DocumentTokens.{TokensResult, document_tokens}
 use Rattle.policy_ast.specs.declared.policy.PlacedItem.{PlacedItem}
 use Rattle.policy_ast.specs.declared.token.Token.{Token}
 use Rattle.policy_ast.specs.grammar.Policies as policies
 use Rattle.policy_ast.specs.grammar.Policies.{IsFaultLine, LongestRun, Spells}
 use Rattle.policy_ast.proofs.grammar.ReadingItems.{read_run}
 use Rattle.policy_ast.proofs.grammar.RunLaws.{longest_once, longest_run, spelled_once}
+use Rattle.policy_rules.specs.WellTyped.{HasTypeFault, IsWellTyped}
+use Rattle.policy_rules.proofs.PolicyLaws.{has_one_verdict}
 use Rattle.aranyad.specs.declared.ending.Ending.{Ending}
 use Rattle.aranyad.specs.declared.ending.Halt.{Halt}
+use Rattle.aranyad.specs.declared.loading.Loaded.{Loaded}
+use Rattle.aranyad.specs.declared.loading.Loaded.TheVariants as loaded
 use Rattle.aranyad.specs.declared.status.Status.TheVariants as status
 use Rattle.aranyad.specs.declared.mode.Mode.{Mode}
 use Rattle.aranyad.specs.first.Acting.{Tagging}
-use Rattle.aranyad.specs.Outcome.{IsParse, Outcome, RunsFiles, RunsMode, RunsTo, RunsTokens, parse_outcome, refused, usage_line}
+use Rattle.aranyad.specs.Loading as loading
+use Rattle.aranyad.specs.Loading.{IsLoaded, IsParsed, IsRead, IsTyped, Loads, fault_line, policy_line}
+use Rattle.aranyad.specs.Outcome.{Outcome, RunsFile, RunsMode, RunsTo, refused, usage_line}
+
+-- ---- one thing
 
 -- where a policy is spelled, there is no fault
 no_fault : (tokens : List Token) (items : List PlacedItem) (line : ℕ) → Spells tokens items → IsFaultLine tokens line → ⊥
@@ -24,49 +35,79 @@ line_of : ℕ → List Token → ℕ
 line_of line [] = line
 line_of line (t ∷ ts) = t.line
 
--- tokens are parsed as one thing
-pub one_parse : (tokens : List Token) (a b : Result (List PlacedItem) ℕ) → IsParse tokens a → IsParse tokens b → a ≡ b
+-- tokens have one syntax fault
+one_fault : (tokens : List Token) (l m : ℕ) → IsFaultLine tokens l → IsFaultLine tokens m → l ≡ m
 unfolding line_of
-one_parse tokens (Ok a) (Ok b) x y = ap Ok (spelled_once tokens a b x y)
-one_parse tokens (Ok a) (Err m) x y = absurd (no_fault tokens a m x y)
-one_parse tokens (Err l) (Ok b) x y = absurd (no_fault tokens b l y x)
-one_parse tokens (Err l) (Err m) (policies.behind_run first rest run) (policies.behind_run other others also) =
-    ap (λ (ts : List Token). Err (line_of 0 ts)) (longest_once tokens (first ∷ rest) (other ∷ others) run also)
+one_fault tokens l m (policies.behind_run first rest run) (policies.behind_run other others also) =
+    ap (λ (ts : List Token). line_of 0 ts) (longest_once tokens (first ∷ rest) (other ∷ others) run also)
 
--- and as something
-some_run : (tokens rest : List Token) → LongestRun tokens rest → (parse : Result (List PlacedItem) ℕ) × IsParse tokens parse
-some_run tokens [] run = (Ok run.items, run.run)
-some_run tokens (t ∷ rest) run = (Err t.line, policies.behind_run t rest run)
+abbrev refused_at : List ℕ → ℕ → Loaded
+refused_at what line = loaded.Refused (policy_line what line)
 
-pub some_parse : (tokens : List Token) → (parse : Result (List PlacedItem) ℕ) × IsParse tokens parse
-some_parse tokens = some_run tokens (read_run (length tokens) [] tokens).1 (longest_run tokens)
+one_typed : (digest : List ℕ) (policy : List PlacedItem) (a b : Loaded) → IsTyped digest policy a → IsTyped digest policy b → a ≡ b
+one_typed digest policy a b (loading.ill_typed line p) (loading.ill_typed other q) = ap (refused_at (codes "type")) ((has_one_verdict policy).one_line line other p q)
+one_typed digest policy a b (loading.ill_typed line p) (loading.well_typed q) = absurd ((has_one_verdict policy).not_both line p q)
+one_typed digest policy a b (loading.well_typed p) (loading.ill_typed other q) = absurd ((has_one_verdict policy).not_both other q p)
+one_typed digest policy a b (loading.well_typed p) (loading.well_typed q) = refl
 
--- the tokens were parsed as this
-pub parsed : (told : Option Tagging) (document : List ℕ) (script : Option (Option (List ℕ))) (tokens : List Token) (one : Result (List PlacedItem) ℕ) (result : Result Ending Halt) (old new : Option (List ℕ)) → IsParse tokens one →
-    RunsTo result (parse_outcome told document script one) old new → (parse : Result (List PlacedItem) ℕ) → IsParse tokens parse → RunsTo result (parse_outcome told document script parse) old new
-parsed told document script tokens one result old new is runs parse also = subst (λ p. RunsTo result (parse_outcome told document script p) old new) (one_parse tokens one parse is also) runs
+one_parsed : (digest : List ℕ) (tokens : List Token) (a b : Loaded) → IsParsed digest tokens a → IsParsed digest tokens b → a ≡ b
+one_parsed digest tokens a b (loading.no_items line p) (loading.no_items other q) = ap (refused_at (codes "syntax")) (one_fault tokens line other p q)
+one_parsed digest tokens a b (loading.no_items line p) (loading.items policy q t) = absurd (no_fault tokens policy line q p)
+one_parsed digest tokens a b (loading.items policy p t) (loading.no_items line q) = absurd (no_fault tokens policy line p q)
+one_parsed digest tokens a b (loading.items policy p t) (loading.items other q u) =
+    one_typed digest policy a b t (subst (λ ps. IsTyped digest ps b) (spelled_once tokens other policy q p) u)
 
--- the tokens of the document were found
-pub tokens_found : (told : Option Tagging) (document : List ℕ) (script : Option (Option (List ℕ))) (tokens : List Token) (result : Result Ending Halt) (old new : Option (List ℕ)) → document_tokens document ≡ Ok tokens →
-    ((parse : Result (List PlacedItem) ℕ) → IsParse tokens parse → RunsTo result (parse_outcome told document script parse) old new) →
-    (outcome : Outcome) → RunsTokens told document script (document_tokens document) outcome → RunsTo result outcome old new
-tokens_found told document script tokens result old new is runs outcome of =
-    let found = subst (λ t. RunsTokens told document script t outcome) is of in
-    subst (λ (o : Outcome). RunsTo result o old new) (sym found.2) (runs found.0 found.1)
+one_read : (document : List ℕ) (a b : Loaded) → IsRead document a → IsRead document b → a ≡ b
+one_read document a b (loading.no_tokens fault p) (loading.no_tokens other q) = let same : fault ≡ other = cc in ap (λ f. loaded.Refused (fault_line f)) same
+one_read document a b (loading.no_tokens fault p) (loading.tokens ts q t) = absurd cc
+one_read document a b (loading.tokens ts p t) (loading.no_tokens fault q) = absurd cc
+one_read document a b (loading.tokens ts p t) (loading.tokens others q u) =
+    let same : others ≡ ts = cc in one_parsed (sha256 document) ts a b t (subst (λ xs. IsParsed (sha256 document) xs b) same u)
 
--- the policy's file was read, and is too long
-pub files_too_long : (told : Option Tagging) (file script : Option (Option (List ℕ))) (result : Result Ending Halt) (old new : Option (List ℕ)) → file ≡ Some None →
-    RunsTo result (refused status.TooLarge (codes "too large: policy\n")) old new →
-    (outcome : Outcome) → RunsFiles told file script outcome → RunsTo result outcome old new
-files_too_long told None script result old new is runs outcome of = absurd (cc)
-files_too_long told (Some None) script result old new is runs outcome of = subst (λ (o : Outcome). RunsTo result o old new) (sym of) runs
-files_too_long told (Some (Some d)) script result old new is runs outcome of = absurd (cc)
+pub one_loaded : (file : Option (List ℕ)) (a b : Loaded) → IsLoaded file a → IsLoaded file b → a ≡ b
+one_loaded None a b p q = p ∙ sym q
+one_loaded (Some document) a b p q = one_read document a b p q
 
--- the policy's file was read, within its limit
-pub files_read : (told : Option Tagging) (file script : Option (Option (List ℕ))) (document : List ℕ) (result : Result Ending Halt) (old new : Option (List ℕ)) → file ≡ Some (Some document) →
-    ((outcome : Outcome) → RunsTokens told document script (document_tokens document) outcome → RunsTo result outcome old new) →
-    (outcome : Outcome) → RunsFiles told file script outcome → RunsTo result outcome old new
-files_read told file script document result old new is runs outcome of = runs outcome (subst (λ f. RunsFiles told f script outcome) is of)
+-- ---- and something
+
+some_typed : (digest : List ℕ) (policy : List PlacedItem) → IsWellTyped policy ⊎ ((line : ℕ) × HasTypeFault policy line) → (is : Loaded) × IsTyped digest policy is
+some_typed digest policy (inl well) = (loaded.Whole digest policy, loading.well_typed well)
+some_typed digest policy (inr fault) = (refused_at (codes "type") fault.0, loading.ill_typed fault.0 fault.1)
+
+some_run : (digest : List ℕ) (tokens rest : List Token) → LongestRun tokens rest → (is : Loaded) × IsParsed digest tokens is
+some_run digest tokens [] run = let found = some_typed digest run.items ((has_one_verdict run.items).verdict) in (found.0, loading.items run.items run.run found.1)
+some_run digest tokens (t ∷ rest) run = (refused_at (codes "syntax") t.line, loading.no_items t.line (policies.behind_run t rest run))
+
+some_parsed : (digest : List ℕ) (tokens : List Token) → (is : Loaded) × IsParsed digest tokens is
+some_parsed digest tokens = some_run digest tokens (read_run (length tokens) [] tokens).1 (longest_run tokens)
+
+some_read : (document : List ℕ) (tokens : TokensResult) → document_tokens document ≡ tokens → (is : Loaded) × IsRead document is
+some_read document (Err fault) is = (loaded.Refused (fault_line fault), loading.no_tokens fault is)
+some_read document (Ok ts) is = let found = some_parsed (sha256 document) ts in (found.0, loading.tokens ts is found.1)
+
+pub some_loaded : (file : Option (List ℕ)) → (is : Loaded) × IsLoaded file is
+some_loaded None = (loaded.TooLarge, refl)
+some_loaded (Some document) = some_read document (document_tokens document) refl
+
+-- ---- what hangs on it
+
+-- what is owed after Ok follows from what a part gave
+pub ok_map : {T E : Type 0} (result : Result T E) (P Q : T → Type 0) → ((x : T) → P x → Q x) → IfOk result P → IfOk result Q
+ok_map (Ok x) P Q step p = step x p
+ok_map (Err e) P Q step p = tt
+
+-- the document has no tokens, and its fault has this line
+pub fault_read : (document text : List ℕ) (fault : Option DocumentFault) → MatchOption fault ⊥ (λ f. text ≡ fault_line f) → IfSome fault (λ f. document_tokens document ≡ Err f) →
+    IsRead document (loaded.Refused text)
+fault_read document text None line faults = absurd line
+fault_read document text (Some f) line faults = subst (λ t. IsRead document (loaded.Refused t)) (sym line) (loading.no_tokens f faults)
+
+-- the policy's file was loaded, and what was made of it is what is owed
+pub file_loaded : (file : Option (Option (List ℕ))) (goes : Loaded → Outcome) (is : Loaded) (result : Result Ending Halt) (old new : Option (List ℕ)) → Loads file is →
+    RunsTo result (goes is) old new → (outcome : Outcome) → RunsFile file goes outcome → RunsTo result outcome old new
+file_loaded None goes is result old new loads runs outcome of = absurd loads
+file_loaded (Some file) goes is result old new loads runs outcome of =
+    subst (λ (o : Outcome). RunsTo result o old new) (ap goes (one_loaded file is of.0 loads of.1) ∙ sym of.2) runs
 
 -- words of no mode
 pub usage_runs : (told : Option Tagging) (at : Holding) (mode : Option Mode) (result : Result Ending Halt) (old new : Option (List ℕ)) → mode ≡ None →

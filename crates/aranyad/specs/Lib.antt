@@ -3,6 +3,7 @@ pub mod first
 pub mod Ending
 pub mod FailedReads
 pub mod Laws
+pub mod Loading
 pub mod Modes
 pub mod Outcome
 pub mod Status

@@ -5,15 +5,12 @@ use Rattle.std.specs.List.{concat}
 use Rattle.std.specs.Option.{option_map}
 use Rattle.std.specs.Fmt.{decimal}
 use Rattle.std.specs.Io.KnownBytes.{append_known}
-use Rattle.sha2.specs.Sha256.{sha256}
 use Rattle.outside.specs.Files.{Holding}
-use Rattle.policy_ast.specs.DocumentFault.{DocumentFault, NotUtf8, NoFrontMatter, WrongVersion, OpenBlock, BadToken}
-use Rattle.policy_ast.specs.DocumentTokens.{TokensResult, document_tokens}
 use Rattle.policy_ast.specs.declared.policy.PlacedItem.{PlacedItem}
-use Rattle.policy_ast.specs.declared.token.Token.{Token}
-use Rattle.policy_ast.specs.grammar.Policies.{IsFaultLine, Spells}
 use Rattle.aranyad.specs.declared.mode.Mode.{Mode}
-use Rattle.aranyad.specs.declared.mode.Mode.TheVariants.{Run}
+use Rattle.aranyad.specs.declared.mode.Mode.TheVariants.{Check, Run}
+use Rattle.aranyad.specs.declared.loading.Loaded.{Loaded}
+use Rattle.aranyad.specs.declared.loading.Loaded.TheVariants as loaded
 use Rattle.aranyad.specs.declared.status.Status.{Status}
 use Rattle.aranyad.specs.declared.status.Status.TheVariants as status
 use Rattle.aranyad.specs.declared.first.policy.SmallPolicy.{SmallPolicy}
@@ -22,6 +19,7 @@ use Rattle.aranyad.specs.first.Acting.{Tagging}
 use Rattle.aranyad.specs.first.Running.{texts}
 use Rattle.aranyad.specs.first.Script.{script_of}
 use Rattle.aranyad.specs.first.Small.{small_policy, trees_of}
+use Rattle.aranyad.specs.Loading.{IsLoaded}
 use Rattle.aranyad.specs.Modes.{mode_of}
 use Rattle.aranyad.specs.Ending.{ending_status}
 use Rattle.aranyad.specs.declared.ending.Ending.{Ending}
@@ -68,49 +66,41 @@ module _ (told : Option Tagging) (digest : List ℕ) (items : List Item) where
   script_outcome (Some None) = refused status.TooLarge (codes "too large: script\n")
   script_outcome (Some (Some script)) = lines_outcome (script_of items script)
 
--- the line of a document that is refused at one of its lines
-abbrev pub policy_line : List ℕ → ℕ → List ℕ
-policy_line what line = concat (codes "policy refused: " ∷ what ∷ codes ", line " ∷ decimal line ∷ codes "\n" ∷ [])
+-- how a policy's file ends a run by itself, and where it is a policy, what is made of its digest and its items
+abbrev pub loaded_outcome : (List ℕ → List PlacedItem → Outcome) → Loaded → Outcome
+loaded_outcome goes loaded.TooLarge = refused status.TooLarge (codes "too large: policy\n")
+loaded_outcome goes (loaded.Refused line) = refused status.PolicyRefused line
+loaded_outcome goes (loaded.Whole digest policy) = goes digest policy
 
-abbrev pub fault_line : DocumentFault → List ℕ
-fault_line (NotUtf8 line) = policy_line (codes "not utf-8") line
-fault_line NoFrontMatter = policy_line (codes "no front matter") 1
-fault_line (WrongVersion line) = policy_line (codes "wrong version") line
-fault_line (OpenBlock line) = policy_line (codes "open block") line
-fault_line (BadToken line) = policy_line (codes "bad token") line
+-- the line that tells of a well-typed policy
+abbrev pub checked_line : ℕ → List ℕ
+checked_line number = concat (codes "policy ok: items " ∷ decimal number ∷ codes "\n" ∷ [])
 
--- the items that tokens spell, and where they spell none the line of the syntax fault
-abbrev pub IsParse : List Token → Result (List PlacedItem) ℕ → Type 0
-IsParse tokens (Ok items) = Spells tokens items
-IsParse tokens (Err line) = IsFaultLine tokens line
+-- `check`: the number of items is told
+abbrev pub check_outcome : Loaded → Outcome
+check_outcome = loaded_outcome (λ digest policy. record { status = status.Done; pieces = Some (checked_line (length policy) ∷ []) })
 
-module _ (told : Option Tagging) (document : List ℕ) (script : Option (Option (List ℕ))) where
+module _ (told : Option Tagging) (script : Option (Option (List ℕ))) where
   -- a policy that is no small one is refused, before the script is read
-  abbrev pub policy_outcome : Option SmallPolicy → Outcome
-  policy_outcome None = refused status.PolicyRefused (codes "policy refused: unbuilt\n")
-  policy_outcome (Some policy) = script_outcome told (sha256 document) policy.items script
+  abbrev pub policy_outcome : List ℕ → Option SmallPolicy → Outcome
+  policy_outcome digest None = refused status.PolicyRefused (codes "policy refused: unbuilt\n")
+  policy_outcome digest (Some policy) = script_outcome told digest policy.items script
 
-  -- and so is a document whose tokens spell no policy
-  abbrev pub parse_outcome : Result (List PlacedItem) ℕ → Outcome
-  parse_outcome (Err line) = refused status.PolicyRefused (policy_line (codes "syntax") line)
-  parse_outcome (Ok items) = policy_outcome (small_policy (trees_of items))
+  -- `run`: the script is run under the policy
+  abbrev pub run_outcome : Loaded → Outcome
+  run_outcome = loaded_outcome (λ digest policy. policy_outcome digest (small_policy (trees_of policy)))
 
-  -- its tokens are judged before that
-  abbrev pub RunsTokens : TokensResult → Outcome → Type 0
-  RunsTokens (Err fault) outcome = outcome ≡ refused status.PolicyRefused (fault_line fault)
-  RunsTokens (Ok tokens) outcome = (parse : Result (List PlacedItem) ℕ) × IsParse tokens parse × (outcome ≡ parse_outcome parse)
+-- a run over a policy's file, by what becomes of what it is taken for
+abbrev pub RunsFile : Option (Option (List ℕ)) → (Loaded → Outcome) → Outcome → Type 0
+RunsFile None goes outcome = outcome ≡ ended status.ReadFault
+RunsFile (Some file) goes outcome = (is : Loaded) × IsLoaded file is × (outcome ≡ goes is)
 
 module _ (told : Option Tagging) where
-  -- a run over the policy's file and the script's
-  abbrev pub RunsFiles : Option (Option (List ℕ)) → Option (Option (List ℕ)) → Outcome → Type 0
-  RunsFiles None script outcome = outcome ≡ ended status.ReadFault
-  RunsFiles (Some None) script outcome = outcome ≡ refused status.TooLarge (codes "too large: policy\n")
-  RunsFiles (Some (Some document)) script outcome = RunsTokens told document script (document_tokens document) outcome
-
   abbrev pub RunsMode : Holding → Option Mode → Outcome → Type 0
   RunsMode at None outcome = outcome ≡ refused status.Usage usage_line
+  RunsMode at (Some (Check policy)) outcome = RunsFile (limited policy_limit (at policy)) check_outcome outcome
   RunsMode at (Some (Run policy script store)) outcome =
-      RunsFiles (limited policy_limit (at policy)) (limited script_limit (at script)) outcome
+      RunsFile (limited policy_limit (at policy)) (run_outcome told (limited script_limit (at script))) outcome
 
   -- the outcome of a run of these words over these files, with the tags that the envelope tells
   abbrev pub Runs : Holding → List (List ℕ) → Outcome → Type 0

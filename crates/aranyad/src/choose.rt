@@ -36,6 +36,13 @@ pub fn choose(alloc: Global, words: &[Text]) -> Result<Mode, ChooseFault>
     ensures usage { result ≡ Err fault.Usage → mode_of words.now ≡ None }
 {
     match words {
+        [verb, policy] => {
+            if verb.as_str() == "check" && is_file_name(policy) {
+                Ok(Mode::Check(policy.copy(alloc)?))
+            } else {
+                Err(ChooseFault::Usage)
+            }
+        }
         [verb, policy, script] => {
             if verb.as_str() == "run" && is_file_name(policy) && is_file_name(script) {
                 Ok(Mode::Run(policy.copy(alloc)?, script.copy(alloc)?, None))

@@ -7,6 +7,7 @@ mod choose;
 mod ending;
 mod first;
 pub mod laws;
+mod loading;
 mod mode;
 mod refusal;
 mod run;

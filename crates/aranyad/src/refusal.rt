@@ -1,6 +1,6 @@
 ghost use Rattle.std.specs.Prelude.{◌≡◌, [], ◌∷◌, MatchOption, IfOk};
 ghost use Rattle.policy_lex.specs.Answers.{named};
-ghost use Rattle.aranyad.specs.Outcome.{fault_line, policy_line};
+ghost use Rattle.aranyad.specs.Loading.{fault_line, policy_line};
 
 use crate::first::texts::joined;
 use base_bytes::{Bytes, NoMemory};

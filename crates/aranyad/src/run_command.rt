@@ -13,7 +13,7 @@ use crate::choose::{ChooseFault, choose};
 use crate::ending::{Ending, Halt};
 use crate::mode::Mode;
 use crate::run::refuse;
-use crate::stages::run_files;
+use crate::stages::{check_file, run_files};
 use crate::status::Status;
 use base_bytes::Text;
 use outside::{Disk, Envelope, Files, Sink};
@@ -38,8 +38,10 @@ fn run_mode<F: Files, E: Envelope, K: Sink>(
     ensures name { result ≡ Err halt.Read → ReadFails (F.holds files.old) (Some mode) (F.last files.new) }
     ensures nothing { result ≡ Err halt.Read → K.written out.new ≡ K.written out.old }
 {
-    let Mode::Run(policy, script, _store) = mode;
-    run_files(alloc, policy, script, files, env, out)
+    match mode {
+        Mode::Check(policy) => check_file(alloc, policy, files, out),
+        Mode::Run(policy, script, _store) => run_files(alloc, policy, script, files, env, out),
+    }
 }
 
 /// Does what the words ask for.

@@ -1,4 +1,5 @@
 // Tables of runs of `run_command` on the objects in memory.
+mod checks;
 mod devices;
 mod documents;
 mod limits;
@@ -146,6 +147,12 @@ fn documents_are_refused_with_their_line(rt: HostRuntime) -> Result<(), Fail> {
         };
         assert_row(&rt, rt.alloc(), &row)?;
     }
+    Ok(())
+}
+
+#[test]
+fn policies_are_judged_without_a_script(rt: HostRuntime) -> Result<(), Fail> {
+    assert_rows(&rt, rt.alloc(), &checks::ROWS)?;
     Ok(())
 }
 

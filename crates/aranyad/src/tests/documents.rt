@@ -1,7 +1,7 @@
 // Documents that are refused.
 
 /// Each with its name, its text, the bytes that stand behind the text, and what is printed.
-pub const REFUSED: [(&str, &str, &[u8], &[&str]); 26] = [
+pub const REFUSED: [(&str, &str, &[u8], &[&str]); 29] = [
     // Faults of a document and their lines.
     (
         "a byte that belongs to no character",
@@ -119,7 +119,26 @@ pub const REFUSED: [(&str, &str, &[u8], &[&str]); 26] = [
         b"",
         &["policy refused: syntax, line 6\n"],
     ),
-    // Documents that spell items, and are no small policy.
+    // Items that aren't all well typed.
+    (
+        "a name that is no item's",
+        "---\npolicy-version: 2\n---\n```policy\nfunction f(a int) bool { check a return true }\naction g() { publish Nope { } }\n```\n",
+        b"",
+        &["policy refused: type, line 5\n"],
+    ),
+    (
+        "the second item alone",
+        "---\npolicy-version: 2\n---\n```policy\nfunction f(a bool) bool { check a return true }\naction g() { publish Nope { } }\naction g() { }\n```\n",
+        b"",
+        &["policy refused: type, line 6\n"],
+    ),
+    (
+        "a field that the command doesn't have",
+        "---\npolicy-version: 2\n---\n```policy\nfact Item[n int]=>{by id}\ncommand Start { attributes { init: true } fields { } seal { return envelope::do_seal(serialize(this)) } open { return deserialize(envelope::do_open(envelope)) } policy { finish { } } }\naction start(n int) { publish Start { n: n } }\n```\n",
+        b"",
+        &["policy refused: type, line 7\n"],
+    ),
+    // Documents that spell well-typed items, and are no small policy.
     (
         "no block",
         "---\npolicy-version: 2\n---\n",

@@ -1,7 +1,7 @@
 // The limits of the files, and what is judged before what.
 use crate::tests::rows::{FIRST, Row};
 
-pub const ROWS: [Row; 13] = [
+pub const ROWS: [Row; 14] = [
     Row {
         name: "a policy of the limit",
         policy_length: 1_048_576,
@@ -72,6 +72,14 @@ pub const ROWS: [Row; 13] = [
         policy: "---\npolicy-version: 2\n---\n```policy\n}\n```\n",
         status: 1,
         text: &["policy refused: syntax, line 5\n"],
+        ..FIRST
+    },
+    Row {
+        name: "an ill-typed item, and no script",
+        words: &["run", "policy", "gone"],
+        policy: "---\npolicy-version: 2\n---\n```policy\naction g() { publish Nope { } }\n```\n",
+        status: 1,
+        text: &["policy refused: type, line 5\n"],
         ..FIRST
     },
     Row {

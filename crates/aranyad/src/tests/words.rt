@@ -5,7 +5,7 @@ pub const USAGE: &[&str] = &[
     "usage: aranyad check POLICY | run POLICY SCRIPT [--store DIR] | code POLICY | gen N | serve POLICY SCRIPT --rounds N\n",
 ];
 
-pub const OTHERS: [(&str, &[&str]); 25] = [
+pub const OTHERS: [(&str, &[&str]); 29] = [
     ("no word", &[]),
     ("one word", &["run"]),
     ("two words", &["run", "policy"]),
@@ -27,7 +27,11 @@ pub const OTHERS: [(&str, &[&str]); 25] = [
     ("another verb", &["ran", "policy", "script"]),
     ("a large letter", &["Run", "policy", "script"]),
     ("an empty verb", &["", "policy", "script"]),
-    ("check", &["check", "policy"]),
+    ("check without a name", &["check"]),
+    ("check of two names", &["check", "policy", "script"]),
+    ("check of an empty name", &["check", ""]),
+    ("check of a name with a dash", &["check", "-policy"]),
+    ("check with an option", &["check", "--store=d", "policy"]),
     ("code", &["code", "policy"]),
     ("gen", &["gen", "3"]),
     ("serve", &["serve", "policy", "script", "--rounds", "2"]),

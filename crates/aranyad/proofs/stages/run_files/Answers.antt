@@ -1,16 +1,14 @@
-use Rattle.std.proofs.Common.{Some, ap, ◌∙◌}
-use Rattle.aranyad.specs.Outcome.{limited, script_limit, policy_limit}
-use Rattle.aranyad.proofs.Readings.{files_read}
-use Rattle.aranyad.proofs.Runs.{told_all, told_from, read_halted}
+use Rattle.aranyad.specs.Outcome.{limited, policy_limit, run_outcome, script_limit}
+use Rattle.aranyad.proofs.Readings.{file_loaded}
+use Rattle.aranyad.proofs.Runs.{read_halted, told_all, told_from}
 use Rattle.aranyad.proofs.stages.run_files.Goals as goal
 
-pub returns-in-Ok-Some-clause-run : goal.returns-in-Ok-Some-clause-run
-returns-in-Ok-Some-clause-run g c =
+pub returns-in-Ok-clause-run : goal.returns-in-Ok-clause-run
+returns-in-Ok-clause-run g c =
     told_from (g.F.Files.holds c.args.files.now) _ _ _
-    (λ at file runs. files_read g.E.Envelope.tag_of (limited policy_limit (at c.args.policy)) (limited script_limit (at c.args.script)) c.in-Ok-Some.document c.run_document.result _ _
-    (file ∙ ap Some c.in-Ok-Some.field-0-is) runs)
-    c.in-Ok-Some.ensures.found
-    (rw (c.in-Ok-Some.ensures.holds, c.as_slice.ensures) at c.run_document.ensures.run)
+    (λ at loads runs. file_loaded (limited policy_limit (at c.args.policy)) (run_outcome g.E.Envelope.tag_of (limited script_limit (at c.args.script))) c.in-Ok.loaded c.run_loaded.result _ _ loads runs)
+    c.in-Ok.ensures.loads
+    (rw c.in-Ok.ensures.holds at c.run_loaded.ensures.run)
 
 pub returns-in-Err-clause-run : goal.returns-in-Err-clause-run
 returns-in-Err-clause-run g c =

@@ -27,5 +27,5 @@ run_script-requires g c = small_is_sound (trees_of c.args.items.now) c.in-Ok-Som
 pub returns-in-Err-clause-run : goal.returns-in-Err-clause-run
 returns-in-Err-clause-run g c =
     told_all (g.F.Files.holds c.args.files.now) _ (λ at.
-    wanting_at_once (policy_outcome g.E.Envelope.tag_of c.args.document.now (limited script_limit (at c.args.script)) (small_policy (trees_of c.args.items.now)))
+    wanting_at_once (policy_outcome g.E.Envelope.tag_of (limited script_limit (at c.args.script)) c.args.digest.now (small_policy (trees_of c.args.items.now)))
     (g.K.Sink.written c.args.out.now))
