@@ -1,5 +1,5 @@
 -- Runs of a few commands, computed. What their blocks come to is given.
-use Rattle.std.proofs.Common.{◌≡◌, ℕ, List, [], ◌∷◌, Some, None, refl}
+use Rattle.std.proofs.Common.{◌≡◌, ℕ, ◌+◌, List, [], ◌∷◌, ◌++◌, Some, None, refl}
 use Rattle.braid_run.specs.Runs.{Run, block_ticks, call_ticks, entry_of, rows_behind, run_of, with_call}
 use Rattle.braid_run.specs.declared.entry.Entry.{Entry}
 use Rattle.braid_run.specs.declared.entry.Outcome.{Outcome}
@@ -64,3 +64,42 @@ module _ (policy : List PlacedItem) (a b c : Command) (p q s : Call) (r0 r1 r2 :
   three : run_of policy (a ∷ b ∷ c ∷ []) ≡ record { rows = r2; entries = one a outcome.Pass [] ∷ one b outcome.Pass did ∷ one c outcome.Recalled lost ∷ []; ticks = 4 }
   unfolding one
   three = rw (a_is, b_is, c_is, a_passes, b_passes, c_checks, c_recalled) refl
+
+-- ---- commands that count and note: one of value v, over facts that have counted to n, counts to n + 1 and notes v there
+
+module _ (policy : List PlacedItem) (facts : ℕ → List (ℕ × ℕ) → List Row) (did : ℕ → Effect) (begin low high mid : Command) (first : Call) (call : ℕ → Call)
+    (begin_is : call_of policy begin ≡ Some first) (low_is : call_of policy low ≡ Some (call 1)) (high_is : call_of policy high ≡ Some (call 2))
+    (mid_is : call_of policy mid ≡ Some (call 3)) (begins : policy_block policy first [] ≡ Passes (facts 0 []) [])
+    (counts : (v n : ℕ) (noted : List (ℕ × ℕ)) → policy_block policy (call v) (facts n noted) ≡ Passes (facts (n + 1) (noted ++ (n + 1, v) ∷ [])) (did v ∷ [])) where
+  passed : Command → List Effect → Entry
+  passed command effects = record { id = command_id command; outcome = outcome.Pass; effects = effects }
+
+  -- the braid of two strands, of which the higher priority is run first
+  two_strands : run_of policy (begin ∷ high ∷ low ∷ []) ≡ record {
+    rows = facts 2 ((1, 2) ∷ (2, 1) ∷ []);
+    entries = passed begin [] ∷ passed high (did 2 ∷ []) ∷ passed low (did 1 ∷ []) ∷ [];
+    ticks = 3;
+  }
+  unfolding passed
+  two_strands = rw (begin_is, high_is, low_is, begins, counts 2 0 [], counts 1 1 ((1, 2) ∷ [])) refl
+
+  -- the braid of a lower and a higher priority in one strand, with a middle one beside them
+  three_in_order : run_of policy (begin ∷ low ∷ high ∷ mid ∷ []) ≡ record {
+    rows = facts 3 ((1, 1) ∷ (2, 2) ∷ (3, 3) ∷ []);
+    entries = passed begin [] ∷ passed low (did 1 ∷ []) ∷ passed high (did 2 ∷ []) ∷ passed mid (did 3 ∷ []) ∷ [];
+    ticks = 4;
+  }
+  unfolding passed
+  three_in_order = rw (begin_is, low_is, high_is, mid_is, begins, counts 1 0 [], counts 2 1 ((1, 1) ∷ []), counts 3 2 ((1, 1) ∷ (2, 2) ∷ [])) refl
+
+-- ---- a command that is no call stands between two that pass
+
+module _ (policy : List PlacedItem) (a b c : Command) (p s : Call) (r0 r1 : List Row) (did : List Effect)
+    (a_is : call_of policy a ≡ Some p) (b_is : call_of policy b ≡ None) (c_is : call_of policy c ≡ Some s)
+    (a_passes : policy_block policy p [] ≡ Passes r0 []) (c_passes : policy_block policy s r0 ≡ Passes r1 did) where
+  of : Command → Outcome → List Effect → Entry
+  of command outcome effects = record { id = command_id command; outcome = outcome; effects = effects }
+
+  the_run_goes_on : run_of policy (a ∷ b ∷ c ∷ []) ≡ record { rows = r1; entries = of a outcome.Pass [] ∷ of b outcome.Void [] ∷ of c outcome.Pass did ∷ []; ticks = 2 }
+  unfolding of
+  the_run_goes_on = rw (a_is, b_is, c_is, a_passes, c_passes) refl
