@@ -11,4 +11,5 @@ pub mod NumberFacts
 pub mod ArgumentFacts
 pub mod EvaluationRows
 pub mod OrderRows
+mod ResolvingRows
 pub mod ValueRows
