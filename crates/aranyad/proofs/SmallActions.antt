@@ -5,6 +5,7 @@ use Rattle.std.specs.Str.{bytes_eq}
 use Rattle.std.proofs.lemmas.Bool.{false≢true}
 use Rattle.std.proofs.lemmas.Option.{same_Some, slice_get-map}
 use Rattle.base_bytes.proofs.Bools.{and_then, either}
+use Rattle.base_bytes.specs.Payload.{spelling}
 use Rattle.base_bytes.specs.declared.value.Value.TheVariants as value
 use Rattle.fact_store.specs.declared.row.Row.{Row}
 use Rattle.policy_ast.specs.declared.expr.Expr.{Expr}
@@ -29,11 +30,14 @@ use Rattle.policy_meaning.specs.declared.ends.ActionEnd.{ActionEnd}
 use Rattle.policy_meaning.specs.declared.ends.Posted.{Posted}
 use Rattle.policy_meaning.specs.declared.ends.Posted.TheVariants as posted
 use Rattle.aranyad.specs.declared.first.policy.Action.{Action}
+use Rattle.aranyad.specs.declared.first.policy.Basic.{Basic}
 use Rattle.aranyad.specs.declared.first.policy.Bind.{Bind}
 use Rattle.aranyad.specs.declared.first.policy.Item.{Item}
 use Rattle.aranyad.specs.declared.first.policy.Item.TheVariants as item
 use Rattle.aranyad.specs.declared.first.small_parts.Source.TheVariants as source
 use Rattle.aranyad.specs.first.Instances.{ActionsAreAlike, command_fields, end_after, int_values, number_of, published_fields}
+use Rattle.aranyad.specs.first.Acting.{published_values}
+use Rattle.aranyad.specs.first.Payload.{payload_of}
 use Rattle.aranyad.specs.first.Meaning.{constructed, value_of}
 use Rattle.aranyad.specs.first.Small.{each_of, small_item, trees_of}
 use Rattle.aranyad.specs.first.Sound as sound
@@ -41,6 +45,7 @@ use Rattle.aranyad.specs.first.Sound.{Name, is_among, is_sound, item_named, name
 use Rattle.aranyad.proofs.SmallHeads.{basic_struct, bytes_turned, int_declared, int_named, names_in_ints, start_struct, trees}
 use Rattle.aranyad.proofs.SmallMeaning.{says_name, says_struct, struct_is}
 use Rattle.aranyad.proofs.SmallNames.{all_at, fit_typed}
+use Rattle.aranyad.proofs.SmallPayloads.{payload_is_spelling}
 use Rattle.aranyad.proofs.SmallPlaces.{number_is}
 use Rattle.aranyad.proofs.SmallTrees.{bind_tree, construct_tree, items_are, tree_of}
 use Rattle.aranyad.proofs.SmallTypes.{binds_typed, bound_names}
@@ -196,7 +201,12 @@ action_fits small sound_too n a at =
     and_then (not (bytes_eq a.name (codes "Envelope"))) (sound.action_is_sound small a) p (λ free fits.
     and_then (sound.are_fields a.parameters) (sound.publishes (item_named small a.published.name) a) fits (λ fields publishes. publishes))))))
 
+published_payload : (small : List Item) (number : ℕ) (b : Basic) (a : Action) (arguments : List ℤ) → item_named small a.published.name ≡ Some (item.Basic b)
+    → payload_of (published_values b a arguments) ≡ spelling (value.Struct number (int_values (published_fields small a arguments)))
+published_payload small number b a arguments is = rw is (payload_is_spelling number (published_values b a arguments))
+
 pub actions_are_alike : (policy : List PlacedItem) (small : List Item) → each_of small_item (trees_of policy) ≡ Some small → is_sound small ≡ true → ActionsAreAlike policy small
 actions_are_alike policy small are sound_too = record {
   publishes_one = λ n a arguments device now postings ending at long. publishes small a arguments long device n at (action_fits small sound_too n a at) now policy are postings ending;
+  payload = published_payload small;
 }

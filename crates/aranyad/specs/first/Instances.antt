@@ -1,5 +1,5 @@
--- Small policies are policies of the whole language: what the names of their items are for, they are by its rules of types, and what they do, they do by its
--- meaning.
+-- Small policies are policies of the whole language: its rules of types take just them, and its meaning says of their commands and actions what the small
+-- definitions say.
 use Rattle.std.specs.Prelude.{◌≡◌, ◌↔◌, ◌==◌, ◌&&◌, ℕ, ℤ, int_lt, Bool, true, List, [], ◌∷◌, count_by, map, length, position, slice_get, Option, Some, None, unwrap_or}
 use Rattle.std.specs.List.{list_all}
 use Rattle.std.specs.Str.{bytes_eq}
@@ -22,6 +22,7 @@ use Rattle.policy_meaning.specs.declared.ends.Posted.TheVariants as posted
 use Rattle.aranyad.specs.declared.first.facts.Row as small
 use Rattle.aranyad.specs.declared.first.verdict.Verdict.{Verdict}
 use Rattle.aranyad.specs.declared.first.verdict.Verdict.TheVariants as verdicts
+use Rattle.aranyad.specs.first.Acting.{published_values}
 use Rattle.aranyad.specs.first.Meaning.{Done, Emitted, Entry, Outcome, ran, command_done, constructed, emitted, verdict}
 use Rattle.aranyad.specs.first.Meaning as meant
 use Rattle.aranyad.specs.first.Payload.{payload_of}
@@ -67,9 +68,9 @@ has_small_shape items = (count_by is_fact items == 1) && (count_by is_start item
 
 -- items are a small policy exactly where the rules of the whole language take them, and they have the shape of one
 pub record IsTypedAlike (policy : List PlacedItem) (small : List Item) : Type 0 where
-  -- so it is for trees as their types let them be
+  -- of trees as code holds them, where names and numbers fit by their types
   pub chosen : are_spelled small ≡ true → bounds_fit small ≡ true → (small_policy (trees_of policy) ≡ Some (record { items = small })) ↔ ((has_small_shape small ≡ true) × IsWellTyped policy)
-  -- and this of all trees: small definitions ask for names of the grammar, and the rules for bounds of 64 bits
+  -- of all trees: small definitions ask for names of the grammar, and the rules of types for bounds of 64 bits
   pub alike : ((is_sound small ≡ true) × (bounds_fit small ≡ true)) ↔ ((has_small_shape small ≡ true) × (are_spelled small ≡ true) × IsWellTyped policy)
 
 -- ---- rows
@@ -158,6 +159,9 @@ pub record ActionsAreAlike (policy : List PlacedItem) (items : List Item) : Type
       → slice_get items number ≡ Some (item.Action a) → length arguments ≡ length a.parameters
       → Acts policy number (int_values arguments) device rows postings ending
       ↔ ((p : Posting) × (postings ≡ p ∷ []) × (brought p ≡ record { command = number_of items a.published.name; fields = int_values (published_fields items a arguments) }) × (ending ≡ end_after p.posted))
+  -- the payload that small definitions give to an ordinary command is the spelling of these fields
+  pub payload : (number : ℕ) (b : Basic) (a : Action) (arguments : List ℤ) → item_named items a.published.name ≡ Some (item.Basic b)
+      → payload_of (published_values b a arguments) ≡ spelling (value.Struct number (int_values (published_fields items a arguments)))
 
 -- ---- commands of the graph
 
