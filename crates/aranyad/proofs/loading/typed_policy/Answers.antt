@@ -6,4 +6,4 @@ returns-in-Ok c = rw c.in-Ok.ensures.policy (loading.well_typed c.in-Ok.ensures.
 
 pub returns-in_ok-policy_line-in-Err-IllTyped : goal.returns-in_ok-policy_line-in-Err-IllTyped
 returns-in_ok-policy_line-in-Err-IllTyped c =
-    rw (c.in_ok-policy_line-in-Err-IllTyped.ensures, c.in-Err-IllTyped.field-0-is) (loading.ill_typed c.in-Err-IllTyped.item_line (c.check.ensures.ill_typed c.in-Err-IllTyped.item_line cc))
+    rw (c.in_ok-policy_line-in-Err-IllTyped.ensures, c.in-Err-IllTyped.field-0-is) (loading.ill_typed c.in-Err-IllTyped.item_line (rw c.in-Err-IllTyped.field-0-is at c.in-Err-IllTyped.ensures.fault))
