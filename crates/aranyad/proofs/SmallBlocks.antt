@@ -9,6 +9,7 @@ use Rattle.std.proofs.lemmas.Slice.Eq.{bytes_eq-Decides}
 use Rattle.base_bytes.proofs.Bools.{and_then}
 use Rattle.base_bytes.specs.declared.value.Value.{Value}
 use Rattle.base_bytes.specs.declared.value.Value.TheVariants as value
+use Rattle.fact_store.specs.Rows.{are_keys}
 use Rattle.fact_store.specs.Writes as writes
 use Rattle.fact_store.specs.declared.row.Row.{Row}
 use Rattle.policy_ast.specs.declared.finish.FinishStmt.{FinishStmt}
@@ -68,6 +69,9 @@ module _ (small : List Item) (one_fact : (count_by sound.is_fact small == 1) ≡
   abbrev lists : FinishStmt → Listing
   lists = listing (trees small) (expression (trees small) now setting) (finish_called (trees small) (finish_expression (trees small) now setting) longest_chain)
 
+  int_is_key : (v : ℤ) → are_keys (value.Int v ∷ []) ≡ true
+  int_is_key v = rw (value.outs-Int v) refl
+
   create_lists : (o : Option Item) (turns : ℕ) → item_named small b.created.fact ≡ o → sound.creates o b ≡ true
       → lists (create_tree b.created) scope turns
       ≡ Done (Create new_row ∷ []) turns
@@ -83,6 +87,7 @@ module _ (small : List Item) (one_fact : (count_by sound.is_fact small == 1) ≡
         fact_is_named small b.created.fact,
         is,
         (bytes_eq-Decides f.value b.created.value).1 (sym ((bytes_eq-Decides b.created.value f.value).0 value_same)),
+        int_is_key (value_of b.fields values b.created.field),
       ) refl)))
   create_lists o turns is creates = absurd (false≢true creates)
 

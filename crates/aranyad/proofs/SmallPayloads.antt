@@ -21,7 +21,7 @@ use Rattle.policy_rules.proofs.Folds.{tree_rules}
 use Rattle.policy_rules.specs.Shapes.{field_value_types, shape_of, shapes_of, value_type_of}
 use Rattle.policy_rules.specs.declared.types.NamedType.TheVariants as named
 use Rattle.policy_ast.specs.declared.item.Item.{Item as Tree}
-use Rattle.policy_meaning.specs.Commands.{fields_of as meaning_fields_of, payload_fields, read_value}
+use Rattle.policy_meaning.specs.working.Payloads.{fields_of as meaning_fields_of, payload_fields, read_value}
 use Rattle.policy_meaning.specs.Values.{struct_layer}
 use Rattle.aranyad.specs.declared.first.policy.Basic.{Basic}
 use Rattle.aranyad.specs.declared.first.policy.Item.{Item}
