@@ -3,7 +3,7 @@ ghost use Rattle.std.specs.Prelude.{◌≡◌, ◌≤◌, [], None, Some, false,
 ghost use Rattle.outside.specs.declared.faults.DiskStep.{DiskStep};
 ghost use Rattle.outside.specs.Causes.{HasCause, faults_after, next_count};
 ghost use Rattle.outside.specs.Disk.{content_at_rest, step_after};
-ghost use Rattle.outside.specs.working.AtRest.{image_at_rest};
+ghost use Rattle.outside.specs.working.AtRest.{image_at_rest, no_bytes};
 ghost use Rattle.outside.specs.Host.{KeepsNotes, file_disk_last_step, file_disk_faults};
 
 use crate::count::Count;
@@ -142,6 +142,8 @@ impl<R: rt::Files + Drop> Disk for FileDisk<R> {
     ghost last_step = { file_disk_last_step };
 
     ghost faults_fit = { λ disk. disk.faults.fits };
+
+    ghost reads_bytes = { λ disk told. no_bytes };
 
     ghost reads_image = { λ disk told honest. image_at_rest [] };
 

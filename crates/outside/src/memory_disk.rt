@@ -71,6 +71,8 @@ impl Disk for MemoryDisk {
 
     ghost faults_fit = { λ disk. disk.schedule.faults.fits };
 
+    ghost reads_bytes = { λ disk told. disk.bytes.are_bytes };
+
     ghost reads_image = { λ disk told honest. disk.bytes.image };
 
     fn len(&mut self) -> Result<u64, Failed>

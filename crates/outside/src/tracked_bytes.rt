@@ -1,5 +1,5 @@
 // Bytes that are written in place, with a record of all calls and of what each write replaced.
-ghost use Rattle.std.specs.Prelude.{◌≡◌, ◌≤◌, length, reverse, take, drop, OnOk, OnErr};
+ghost use Rattle.std.specs.Prelude.{◌≡◌, ℕ, ◌<◌, ◌≤◌, length, slice_index, reverse, take, drop, OnOk, OnErr};
 ghost use Rattle.outside.specs.Disk.{IsImage, overwritten, content_at_rest, after_part, after_sync};
 ghost use Rattle.outside.specs.working.Replaced.{moment_after};
 
@@ -13,6 +13,7 @@ use std::alloc::Global;
 pub struct TrackedBytes {
     bytes: Vec<u8>,
     calls: Vec<Call>,
+    ghost are_bytes: { (place : ℕ) → slice_index bytes.items place < 256 },
     ghost image: { IsImage (moment_after (reverse calls.items) bytes.items) bytes.items },
 }
 
@@ -37,6 +38,13 @@ fn overwrite(bytes: &mut Vec<u8>, at: usize, piece: &[u8]) -> Result<(), NoMemor
     Ok(())
 }
 
+// That the numbers of a slice are bytes is known where it is passed.
+fn known_bytes(bytes: &[u8])
+    ensures { (place : ℕ) → slice_index bytes.now place < 256 }
+{
+    let _count = bytes.len();
+}
+
 impl TrackedBytes {
     ghost use Rattle.outside.specs.working.Tracked.{tracked_content};
 
@@ -44,8 +52,10 @@ impl TrackedBytes {
     pub fn new(alloc: Global, bytes: Bytes) -> TrackedBytes
         ensures { tracked_content result ≡ content_at_rest bytes }
     {
+        let bytes = bytes.into_vec();
+        known_bytes(&bytes);
         TrackedBytes {
-            bytes: bytes.into_vec(),
+            bytes,
             calls: Vec::new(alloc),
         }
     }
@@ -72,6 +82,7 @@ impl TrackedBytes {
         let under = Bytes::from_slice(alloc, front_at(self.bytes.as_slice(), at, front.len()))?;
         self.calls.reserve(1)?;
         overwrite(&mut self.bytes, at, front)?;
+        known_bytes(&self.bytes);
         let write = Replaced {
             at,
             written_length: front.len(),

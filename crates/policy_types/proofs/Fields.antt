@@ -1,11 +1,11 @@
 -- Values that are given for names: those of fields, of parameters and of a scope.
-use Rattle.std.proofs.Common.{◌≡◌, Bool, true, false, cond, not, ◌&&◌, ◌||◌, List, [], ◌∷◌, ◌++◌, map, Option, Some, None, option_map, option_and_then, refl, sym, ap, subst, ◌∙◌}
+use Rattle.std.proofs.Common.{◌≡◌, Bool, true, false, cond, not, ◌&&◌, ◌||◌, List, [], ◌∷◌, ◌++◌, map, Option, Some, None, refl, sym, ap, subst, ◌∙◌}
 use Rattle.std.proofs.lemmas.Bool.{false≢true}
 use Rattle.std.proofs.lemmas.Option.{same_Some}
 use Rattle.std.proofs.lemmas.Slice.Eq.{bytes_eq-Decides}
 use Rattle.std.specs.List.{list_all}
 use Rattle.std.specs.Str.{bytes_eq}
-use Rattle.base_bytes.proofs.Bools.{and_then, and_both, either}
+use Rattle.base_bytes.proofs.Bools.{and_then, and_both}
 use Rattle.base_bytes.specs.Values.{has_type, hold_in_order}
 use Rattle.base_bytes.specs.declared.ty.Ty.{Ty}
 use Rattle.base_bytes.specs.declared.value.Value.{Value}

@@ -1,21 +1,17 @@
 -- A value of a type is one of each type that it fits.
-use Rattle.std.proofs.Common.{◌≡◌, Bool, true, false, cond, List, map, Option, Some, None, refl, sym, ap, subst, ◌∙◌}
+use Rattle.std.proofs.Common.{◌≡◌, Bool, true, false, cond, List, Some, None, refl, sym, ap, subst, ◌∙◌}
 use Rattle.std.proofs.lemmas.Bool.{false≢true}
 use Rattle.std.proofs.lemmas.Option.{same_Some}
 use Rattle.std.proofs.lemmas.Slice.Eq.{bytes_eq-Decides}
-use Rattle.std.specs.Str.{bytes_eq}
 use Rattle.base_bytes.specs.Values.{has_type}
 use Rattle.base_bytes.specs.declared.shapes.Shapes.{Shapes}
 use Rattle.base_bytes.specs.declared.ty.Ty.{Ty}
 use Rattle.base_bytes.specs.declared.value.Value.{Value}
 use Rattle.policy_ast.specs.declared.item.Item.{Item}
-use Rattle.policy_rules.specs.Heads.{enum_named, struct_named}
-use Rattle.policy_rules.specs.Names.{Name, number_named}
-use Rattle.policy_rules.specs.Shapes.{numbered, shapes_of, value_type_layer, value_type_of}
+use Rattle.policy_rules.specs.Shapes.{shapes_of, value_type_layer, value_type_of}
 use Rattle.policy_rules.specs.Types.{fits, fits_layer, joined}
 use Rattle.policy_rules.specs.declared.types.NamedType.{NamedType, fold_out-NamedType, fold-roll-NamedType, ind-NamedType, map-NamedType, out-NamedType, roll-NamedType}
 use Rattle.policy_rules.specs.declared.types.NamedType.TheOpen.{NamedType-F}
-use Rattle.policy_rules.specs.declared.types.NamedType.TheVariants as ty
 use Rattle.policy_types.proofs.Layers.{no_value, optional_widens}
 use Rattle.policy_types.specs.Fitting.{IsOf}
 

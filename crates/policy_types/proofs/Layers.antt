@@ -1,11 +1,9 @@
 -- Values of a type, layer by layer: what a value of each form of type is, and what makes one.
-use Rattle.std.proofs.Common.{◌≡◌, ◌==◌, ℕ, ℤ, Bool, true, false, ◌&&◌, List, [], ◌∷◌, map, length, Option, Some, None, option_map, unwrap_or, refl, sym, ap, subst, ◌∙◌}
+use Rattle.std.proofs.Common.{◌≡◌, ◌==◌, ℕ, ℤ, Bool, true, List, map, Option, Some, None, refl, sym, ap, subst, ◌∙◌}
 use Rattle.std.proofs.lemmas.Bool.{eq-eqb, eqb-true, false≢true}
 use Rattle.base_bytes.proofs.Bools.{and_then, and_both}
-use Rattle.base_bytes.specs.Values.{are_fields, fits_id, fits_int, fits_text, has_layer, has_type, hold_in_order, is_variant, shape_at}
+use Rattle.base_bytes.specs.Values.{are_fields, fits_id, fits_int, fits_text, has_layer, has_type, is_variant, shape_at}
 use Rattle.base_bytes.specs.declared.shapes.Shapes.{Shapes}
-use Rattle.base_bytes.specs.declared.shapes.Shape.{Shape}
-use Rattle.base_bytes.specs.declared.shapes.Shape.TheVariants as shape
 use Rattle.base_bytes.specs.declared.ty.Ty.{Ty, out-Ty}
 use Rattle.base_bytes.specs.declared.ty.Ty.TheOpen.{Ty-F}
 use Rattle.base_bytes.specs.declared.ty.Ty.TheVariants as value_type
@@ -67,10 +65,10 @@ module _ (shapes : Shapes) where
 
   struct_by : (n : ℕ) (v : Value) (l : Value-F Value) → out-Value v ≡ l → has_parts l (Ty-F.Struct n) ≡ true → IsStruct n v
   struct_by n v (Value-F.Struct k fields) of is = and_then (k == n) (are_fields (map (has_type shapes) fields) (shape_at shapes k)) is (λ same typed. record {
-      fields = fields;
-      parts = ap struct_layer of ∙ ap (λ (m : ℕ). Some (m, fields)) (eqb-true k n same);
-      typed = subst (λ m. are_fields (map (has_type shapes) fields) (shape_at shapes m) ≡ true) (eqb-true k n same) typed;
-    })
+    fields = fields;
+    parts = ap struct_layer of ∙ ap (λ (m : ℕ). Some (m, fields)) (eqb-true k n same);
+    typed = subst (λ m. are_fields (map (has_type shapes) fields) (shape_at shapes m) ≡ true) (eqb-true k n same) typed;
+  })
   struct_by n v l of is = absurd (false≢true is)
 
   pub struct_of_type : (v : Value) (n : ℕ) → has_type shapes v (value_type.Struct n) ≡ true → IsStruct n v

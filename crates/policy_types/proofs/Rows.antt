@@ -1,15 +1,13 @@
 -- Rows of typed facts, and the rows that patterns ask for.
-use Rattle.std.proofs.Common.{◌≡◌, ℕ, Bool, true, false, cond, not, ◌&&◌, ◌==◌, List, [], ◌∷◌, ◌++◌, map, slice_get, Option, Some, None, option_map, option_and_then, unwrap_or, refl, sym, ap, subst, ◌∙◌}
+use Rattle.std.proofs.Common.{◌≡◌, ℕ, Bool, true, false, cond, ◌&&◌, ◌==◌, List, [], ◌∷◌, ◌++◌, map, slice_get, Option, Some, None, option_map, unwrap_or, refl, sym, ap, subst, ◌∙◌}
 use Rattle.std.proofs.lemmas.Bool.{eqb-true, false≢true}
 use Rattle.std.proofs.lemmas.Option.{same_Some}
-use Rattle.std.specs.List.{filter, list_all}
-use Rattle.std.specs.Option.{is_some}
+use Rattle.std.specs.List.{list_all}
 use Rattle.std.specs.Str.{bytes_eq}
 use Rattle.base_bytes.proofs.Bools.{and_both, and_then}
 use Rattle.base_bytes.specs.KeyOrder.{is_key, is_key_layer}
-use Rattle.base_bytes.specs.Values.{are_fields, has_layer, has_type, hold_in_order, shape_at}
+use Rattle.base_bytes.specs.Values.{has_type, hold_in_order}
 use Rattle.base_bytes.specs.declared.shapes.Shapes.{Shapes}
-use Rattle.base_bytes.specs.declared.ty.Ty.{Ty}
 use Rattle.base_bytes.specs.declared.ty.Ty.TheOpen.{Ty-F}
 use Rattle.base_bytes.specs.declared.ty.Ty.TheVariants as value_type
 use Rattle.base_bytes.specs.declared.value.Value.{Value, out-Value}
@@ -25,16 +23,16 @@ use Rattle.policy_ast.specs.declared.field.FieldType.TheOpen.{FieldType-F}
 use Rattle.policy_ast.specs.declared.item.Item.{Item}
 use Rattle.policy_ast.specs.declared.item.Item.TheVariants as item
 use Rattle.policy_meaning.proofs.FieldTypes.{of_form, typed_by_form}
-use Rattle.policy_meaning.specs.Patterns.{before_gap, named_values, row_value, wanted_of}
-use Rattle.policy_meaning.specs.Typed.{are_fields_of, holds_at, is_row_of, is_typed_row}
+use Rattle.policy_meaning.specs.Patterns.{before_gap, by_keys, named_values, row_value, wanted_of}
+use Rattle.policy_meaning.specs.Typed.{are_fields_of, is_row_of, is_typed_row}
 use Rattle.policy_meaning.specs.Environments.{value_in}
 use Rattle.policy_meaning.specs.Values.{optional_of}
-use Rattle.policy_rules.specs.FieldLists.{are_leading_keys, gap_fits}
-use Rattle.policy_rules.specs.Heads.{FactHead, enum_named, fact_named, written_fields}
+use Rattle.policy_rules.specs.FieldLists.{are_leading_keys}
+use Rattle.policy_rules.specs.Heads.{FactHead, enum_named, fact_named}
 use Rattle.policy_rules.specs.Items.{is_key_type, is_key_type_layer}
 use Rattle.policy_rules.specs.Names.{Name, number_named}
 use Rattle.policy_rules.specs.Scopes.{names_in}
-use Rattle.policy_rules.specs.Shapes.{field_value_types, numbered, shapes_of, value_type_of}
+use Rattle.policy_rules.specs.Shapes.{numbered, shapes_of}
 use Rattle.policy_rules.specs.Types.{declared, fits, written_type}
 use Rattle.policy_rules.specs.WellTyped.{IsWellTypedAt}
 use Rattle.policy_rules.specs.declared.types.Named.{Named}
@@ -47,6 +45,10 @@ use Rattle.policy_types.proofs.Standing.{FactStands, StructStands, fact_fields_o
 use Rattle.policy_types.proofs.Values.{is_nothing, is_something}
 use Rattle.policy_types.specs.Asked.{AsksFor}
 use Rattle.policy_types.specs.Fitting.{AreOf, IsOf, types_of}
+
+-- values that are key values
+pub keyed : {A : Type 0} (keys : List Value) (x : A) → are_keys keys ≡ true → by_keys keys x ≡ Some x
+keyed keys x are = ap (λ b. cond b (Some x) None) are
 
 types_both : (fields more : List Named) → types_of (fields ++ more) ≡ types_of fields ++ types_of more
 types_both [] more = refl
@@ -221,11 +223,7 @@ module _ (items : List Item) where
         → Asked name (wanted_of items name key_values value_names values)
     pattern_asks name fact is key_names keys leads key_values are value_names values =
         let s : FactStands items name fact = fact_standing items name fact is in
-        record {
-          wanted = record { fact = s.number; keys = before_gap key_values; values = map (value_in (named_values value_names values)) (names_in fact.values) };
-          is = rw (s.numbered, is) refl;
-          asks = record {
-            numbered = s.numbered;
-            keys = leading_keys s.keys (fact_fields_of items well name fact s).are_keys key_names keys (subst (λ fields. are_leading_keys fields key_names keys ≡ true) (sym s.declares_keys) leads) key_values are;
-          };
-        }
+        let simple : are_keys (before_gap key_values) ≡ true =
+        leading_keys s.keys (fact_fields_of items well name fact s).are_keys key_names keys (subst (λ fields. are_leading_keys fields key_names keys ≡ true) (sym s.declares_keys) leads) key_values are in
+        let wanted : Wanted = record { fact = s.number; keys = before_gap key_values; values = map (value_in (named_values value_names values)) (names_in fact.values) } in
+        record { wanted = wanted; is = rw (s.numbered, is) (keyed (before_gap key_values) wanted simple); asks = record { numbered = s.numbered; keys = simple } }

@@ -1,18 +1,15 @@
 -- The items that names mean in a well-typed policy: their numbers, their shapes, and that the names of their fields are distinct.
-use Rattle.std.proofs.Common.{◌≡◌, ℕ, ◌<◌, ◌^◌, Bool, true, false, cond, not, ◌&&◌, ◌||◌, ◌==◌, List, [], ◌∷◌, ◌++◌, length, map, nat_le, nat_lt, slice_get, take, Option, Some, None, option_map, option_and_then, unwrap_or, refl, sym, ap, subst, ◌∙◌, arith}
-use Rattle.std.proofs.lemmas.Bool.{eq-eqb, false≢true, lt-ltb}
-use Rattle.std.proofs.lemmas.List.Folds.{find_at, list_all-append}
+use Rattle.std.proofs.Common.{◌≡◌, ℕ, Bool, true, false, cond, not, ◌&&◌, ◌||◌, List, [], ◌∷◌, ◌++◌, length, map, nat_le, slice_get, Some, None, option_map, option_and_then, unwrap_or, refl, sym, ap, subst, ◌∙◌}
+use Rattle.std.proofs.lemmas.Bool.{false≢true, lt-ltb}
+use Rattle.std.proofs.lemmas.List.Folds.{find_at}
 use Rattle.std.proofs.lemmas.Option.{same_Some, slice_get-map, slice_get_within}
-use Rattle.std.specs.List.{list_all, list_any, position_or_len}
-use Rattle.std.specs.Option.{is_some}
+use Rattle.std.specs.List.{list_all, position_or_len}
 use Rattle.std.specs.Str.{bytes_eq}
 use Rattle.base_bytes.proofs.Bools.{and_both, and_then}
 use Rattle.base_bytes.proofs.Formats.{bind_then, map_then}
 use Rattle.base_bytes.specs.Values.{are_fields, has_type, hold_in_order, shape_at}
-use Rattle.base_bytes.specs.declared.shapes.Shape.{Shape}
 use Rattle.base_bytes.specs.declared.shapes.Shape.TheVariants as shape
 use Rattle.base_bytes.specs.declared.shapes.Shapes.{Shapes}
-use Rattle.base_bytes.specs.declared.ty.Ty.{Ty}
 use Rattle.base_bytes.specs.declared.ty.Ty.TheVariants as value_type
 use Rattle.base_bytes.specs.declared.value.Value.{Value}
 use Rattle.base_bytes.specs.declared.value.Value.TheVariants as value
@@ -31,12 +28,11 @@ use Rattle.policy_rules.specs.Shapes.{field_value_types, numbered, shape_of, sha
 use Rattle.policy_rules.specs.Types.{declared, written_type}
 use Rattle.policy_rules.specs.WellTyped.{IsWellTypedAt}
 use Rattle.policy_rules.specs.declared.types.Named.{Named}
-use Rattle.policy_rules.specs.declared.types.NamedType.{NamedType, fold_out-NamedType}
-use Rattle.policy_rules.specs.declared.types.NamedType.TheOpen.{NamedType-F}
+use Rattle.policy_rules.specs.declared.types.NamedType.{NamedType}
 use Rattle.policy_rules.specs.declared.types.NamedType.TheVariants as ty
-use Rattle.policy_rules.proofs.Folds.{fold-named_type-Bool, fold-named_type-Enum, fold-named_type-Ident, fold-named_type-Int, fold-named_type-Never, fold-named_type-Optional, fold-named_type-Raw, fold-named_type-Str, fold-named_type-Struct}
+use Rattle.policy_rules.proofs.Folds.{fold-named_type-Bool, fold-named_type-Enum, fold-named_type-Ident, fold-named_type-Int, fold-named_type-Never, fold-named_type-Optional, fold-named_type-Str, fold-named_type-Struct}
 use Rattle.policy_types.proofs.Fields.{are_from_hold, field_there, field_types_are, hold_from_are, name_same, same_name}
-use Rattle.policy_types.proofs.Layers.{IsStruct, no_value, struct_made, struct_of_type}
+use Rattle.policy_types.proofs.Layers.{IsStruct, struct_made, struct_of_type}
 use Rattle.policy_types.specs.Fitting.{AreOf, IsOf, types_of}
 
 -- the names of fields are those of the fields with their types

@@ -1,18 +1,15 @@
 -- What literals and operations give is of the type that the rules give it.
-use Rattle.std.proofs.Common.{◌≡◌, ℤ, pos, negsuc, ◌+ℤ◌, ◌-ℤ◌, ℕ, suc, ◌+◌, ◌-◌, ◌<◌, ◌≤◌, ◌^◌, Bool, true, false, cond, not, ◌&&◌, ◌||◌, ◌==◌, List, [], ◌∷◌, codes, length, map, min, nat_le, nat_lt, slice_get, Option, Some, None, option_map, option_and_then, unwrap_or, refl, sym, ap, subst, ◌∙◌, arith}
+use Rattle.std.proofs.Common.{◌≡◌, ℤ, pos, negsuc, ◌+ℤ◌, ◌-ℤ◌, ℕ, suc, ◌+◌, ◌-◌, ◌<◌, ◌≤◌, ◌^◌, Bool, true, false, cond, not, ◌&&◌, ◌||◌, List, [], ◌∷◌, length, min, nat_le, nat_lt, Option, Some, None, option_map, option_and_then, refl, sym, ap, subst, ◌∙◌, arith}
 use Rattle.std.specs.Prelude.{position, int_lt, int_le}
 use Rattle.std.specs.Int.{w64, saturate_signed}
-use Rattle.std.proofs.lemmas.Bool.{false≢true, leb-true, lt-ltb, ltb-true}
-use Rattle.std.proofs.lemmas.Int.{ints}
+use Rattle.std.proofs.lemmas.Bool.{false≢true, leb-true, lt-ltb}
 use Rattle.std.proofs.lemmas.Option.{same_Some}
-use Rattle.std.specs.List.{list_all, list_any, position_or_len}
-use Rattle.std.specs.Option.{is_some, option_or}
+use Rattle.std.specs.List.{list_any, position_or_len}
+use Rattle.std.specs.Option.{option_or}
 use Rattle.std.specs.Str.{bytes_eq}
 use Rattle.base_bytes.proofs.Bools.{and_both, and_then}
-use Rattle.base_bytes.proofs.Formats.{bind_then, if_then, map_then}
-use Rattle.base_bytes.specs.Values.{fits_int, fits_text, has_type, is_variant, shape_at}
-use Rattle.base_bytes.specs.declared.shapes.Shape.{Shape}
-use Rattle.base_bytes.specs.declared.shapes.Shape.TheVariants as shape
+use Rattle.base_bytes.proofs.Formats.{bind_then, if_then}
+use Rattle.base_bytes.specs.Values.{fits_int, fits_text, has_type, is_variant}
 use Rattle.base_bytes.specs.declared.shapes.Shapes.{Shapes}
 use Rattle.base_bytes.specs.declared.ty.Ty.{Ty}
 use Rattle.base_bytes.specs.declared.ty.Ty.TheVariants as value_type
@@ -29,10 +26,10 @@ use Rattle.policy_ast.specs.declared.item.Item.{Item}
 use Rattle.policy_ast.specs.declared.item.Item.TheVariants as item
 use Rattle.policy_ast.specs.declared.literal.Literal.{Literal}
 use Rattle.policy_ast.specs.declared.literal.Literal.TheVariants as literal
-use Rattle.policy_meaning.specs.Environments.{Env, let_value, literal_value, name_value, value_in, variant_value}
-use Rattle.policy_meaning.specs.Outcomes.{Halt, Check, Fault, Stuck, Out, Done, Ends, or_stuck}
-use Rattle.policy_meaning.specs.Values.{arithmetic_value, calculated, comparison_value, compared, counted, in_range, is_present, limit_of, negated, number, optional_parts, ordered, presence_value, truth, unwrapped}
-use Rattle.policy_rules.specs.Expressions.{arithmetic_type, count_type, is_equality, is_positive}
+use Rattle.policy_meaning.specs.Environments.{Env, let_value, literal_value, name_value, variant_value}
+use Rattle.policy_meaning.specs.Outcomes.{Halt, Ends, or_stuck}
+use Rattle.policy_meaning.specs.Values.{arithmetic_value, calculated, comparison_value, counted, is_present, negated, optional_parts, ordered, presence_value, unwrapped}
+use Rattle.policy_rules.specs.Expressions.{arithmetic_type, count_type, is_equality}
 use Rattle.policy_rules.specs.FieldLists.{are_distinct}
 use Rattle.policy_rules.specs.Heads.{enum_named, let_named, let_type, literal_type, variants}
 use Rattle.policy_rules.specs.Items.{are_variants}
@@ -44,8 +41,8 @@ use Rattle.policy_rules.specs.declared.context.Context.{Context}
 use Rattle.policy_rules.specs.declared.types.NamedType.{NamedType}
 use Rattle.policy_rules.specs.declared.types.NamedType.TheVariants as ty
 use Rattle.policy_types.proofs.Fields.{value_not_there, value_there}
-use Rattle.policy_types.proofs.Layers.{IsOptional, bool_made, id_made, int_made, nothing, nothing_made, number_of, optional_of_type, some_made, something, text_made, truth_of, variant_made}
-use Rattle.policy_types.proofs.Standing.{bool_type, enum_type, enum_variants_of, id_type, int_type, optional_type, shape_stands, standing, text_type}
+use Rattle.policy_types.proofs.Layers.{IsOptional, bool_made, int_made, nothing, nothing_made, number_of, optional_of_type, some_made, something, text_made, truth_of, variant_made}
+use Rattle.policy_types.proofs.Standing.{bool_type, enum_type, enum_variants_of, int_type, optional_type, shape_stands, standing, text_type}
 use Rattle.policy_types.specs.Endings.{Gives}
 use Rattle.policy_types.specs.Fitting.{Fits, IsOf}
 
@@ -164,7 +161,7 @@ module _ (items : List Item) where
       let n = number_of shapes b (as_int b is_too) in
       (calculated op m.0 n.0, rw (m.1, n.1) refl, calculated_is op m.0 n.0)
 
-  counted_is : (op : Count) (limit rows : ℕ) → limit < 2 ^ 63 → IsOf items (count_type op) (counted op limit rows)
+  pub counted_is : (op : Count) (limit rows : ℕ) → limit < 2 ^ 63 → IsOf items (count_type op) (counted op limit rows)
   counted_is count.AtLeast limit rows small = is_bool _
   counted_is count.AtMost limit rows small = is_bool _
   counted_is count.Exactly limit rows small = is_bool _
@@ -172,7 +169,7 @@ module _ (items : List Item) where
 
   -- ---- literals and names
 
-  variant_is : (n ordinal : ℕ) (i : Item) (all : List Name) → variants i ≡ Some all → are_variants all ≡ true → ordinal < length all → is_variant ordinal (shape_of items i) ≡ true
+  pub variant_is : (n ordinal : ℕ) (i : Item) (all : List Name) → variants i ≡ Some all → are_variants all ≡ true → ordinal < length all → is_variant ordinal (shape_of items i) ≡ true
   variant_is n ordinal (item.Enum name own) all has are lt =
       let few : nat_le (length all) 1024 ≡ true = and_then (nat_le 1 (length all) && nat_le (length all) 1024) (are_distinct all) are (λ both apart. and_then (nat_le 1 (length all)) (nat_le (length all) 1024) both (λ one few. few)) in
       let bound : length all ≤ 1024 = leb-true (length all) 1024 few in
@@ -186,13 +183,12 @@ module _ (items : List Item) where
         let s = standing items name i at in
         let lt = place_within (bytes_eq variant) all among in
         let ordinal : ℕ = position_or_len (bytes_eq variant) all in
-        let placed : position (bytes_eq variant) all ≡ Some ordinal = ap (λ b. cond b (Some ordinal) None) (lt-ltb ordinal (length all) lt) in
-        (
+        let placed : position (bytes_eq variant) all ≡ Some ordinal = ap (λ b. cond b (Some ordinal) None) (lt-ltb ordinal (length all) lt) in (
           value.Enum s.number ordinal,
           rw (s.numbered, named, placed) refl,
           subst (of_type (value.Enum s.number ordinal)) (sym (enum_type items name ∙ ap (λ o. numbered value_type.Enum o (number_named items name)) named ∙ ap (numbered value_type.Enum (Some all)) s.numbered))
-            (variant_made shapes s.number ordinal (subst (λ s. is_variant ordinal s ≡ true) (sym (shape_stands items s.number i s.stands))
-            (variant_is s.number ordinal i all has (enum_variants_of items well name all named) lt))),
+              (variant_made shapes s.number ordinal (subst (λ s. is_variant ordinal s ≡ true) (sym (shape_stands items s.number i s.stands))
+              (variant_is s.number ordinal i all has (enum_variants_of items well name all named) lt))),
         ))
 
     same_type : {t u : NamedType} {o : Option Value} → Some t ≡ Some u → Has t o → Has u o

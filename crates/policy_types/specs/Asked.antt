@@ -1,5 +1,5 @@
 -- What patterns ask for.
-use Rattle.std.specs.Prelude.{◌≡◌, ℕ, true, List, Some}
+use Rattle.std.specs.Prelude.{◌≡◌, true, List, Some}
 use Rattle.fact_store.specs.Rows.{are_keys}
 use Rattle.fact_store.specs.declared.wanted.Wanted.{Wanted}
 use Rattle.policy_ast.specs.declared.item.Item.{Item}

@@ -1,5 +1,5 @@
 -- Values of the types that the rules speak of.
-use Rattle.std.specs.Prelude.{◌≡◌, ℕ, true, List, [], ◌∷◌, map, Option, Some}
+use Rattle.std.specs.Prelude.{◌≡◌, ℕ, true, List, [], ◌∷◌, map, Some}
 use Rattle.base_bytes.specs.Values.{fits_id, has_type}
 use Rattle.base_bytes.specs.declared.value.Value.{Value}
 use Rattle.policy_ast.specs.declared.item.Item.{Item}

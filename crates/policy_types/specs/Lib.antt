@@ -2,3 +2,9 @@
 pub mod Fitting
 pub mod Endings
 pub mod Asked
+pub mod Listed
+pub mod EndsWell
+pub mod ActsWell
+pub mod NeverStuck
+pub mod Resolved
+pub mod Ranks

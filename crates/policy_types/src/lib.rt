@@ -2,5 +2,6 @@
 #![tactic(auto)]
 
 mod checked;
+pub mod laws;
 
 pub use checked::Checked;

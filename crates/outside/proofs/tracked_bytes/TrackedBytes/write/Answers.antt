@@ -11,7 +11,7 @@ invariant_of-self-2 c =
     let pushed : c.push.new.self.items ≡ c.args.self.now.calls.items ++ call.Wrote write ∷ [] = search rules in
     let is : c.overwrite.new.bytes.items ≡ overwritten c.args.self.now.bytes.items c.args.at c.args.front.now = search rules in
     let under : c.in_ok-under.under ≡ take (length c.args.front.now) (drop c.args.at c.args.self.now.bytes.items) = search rules in
-    record { image = image_recorded _ _ write _ _ c.args.front.now pushed is c.requires.inside refl under c.requires.front c.args.self.now.image }
+    record { are_bytes = search rules; image = image_recorded _ _ write _ _ c.args.front.now pushed is c.requires.inside refl under c.requires.front c.args.self.now.image }
 
 pub returns-clause-ok : goal.returns-clause-ok
 returns-clause-ok c =
