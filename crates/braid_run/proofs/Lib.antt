@@ -5,6 +5,7 @@ pub mod PlacedFacts
 pub mod SoundFacts
 pub mod FinalFacts
 pub mod Appended
+pub mod CutFacts
 pub mod StandingFacts
 pub mod PublishedFacts
 mod RunRows

@@ -1,8 +1,8 @@
 -- Runs: what the first commands leave, and how far a run has come.
-use Rattle.std.proofs.Common.{◌≡◌, ℕ, suc, ◌+◌, ◌<◌, ◌≤◌, List, [], ◌∷◌, ◌++◌, length, take, drop, get_or, slice_get, Option, Some, option_map, refl, sym, ap, subst, ◌∙◌, arith, append_assoc, append-nil, drop-cons, length-append}
+use Rattle.std.proofs.Common.{◌≡◌, ℕ, suc, ◌+◌, ◌<◌, ◌≤◌, List, [], ◌∷◌, ◌++◌, length, map, take, drop, get_or, slice_get, Option, Some, option_map, refl, sym, ap, subst, ◌∙◌, arith, append_assoc, append-nil, drop-cons, length-append}
 use Rattle.std.specs.List.{All}
 use Rattle.std.proofs.Math.Seq.{take-append_seam}
-use Rattle.std.proofs.lemmas.List.{drop_all, length-take-le, take-append-drop}
+use Rattle.std.proofs.lemmas.List.{drop_all, length-take-le, map-append, take-append-drop}
 use Rattle.std.proofs.lemmas.List.Elements.{All-push}
 use Rattle.std.proofs.lemmas.Option.{same_Some}
 use Rattle.braid.specs.Braids.{picked}
@@ -15,12 +15,18 @@ use Rattle.command.specs.Wire.{command_id}
 use Rattle.command.specs.declared.command.Command.{Command}
 use Rattle.fact_store.specs.declared.row.Row.{Row}
 use Rattle.policy_ast.specs.declared.policy.PlacedItem.{PlacedItem}
-use Rattle.policy_meaning.specs.Commands.{call_judged, call_of}
+use Rattle.policy_meaning.specs.Commands.{Judged, Pass, Recalled, Void, Sticks as Stuck, call_judged, call_of}
 use Rattle.policy_meaning.specs.declared.call.Call.{Call}
 
 -- a run of which more blocks were run before
 abbrev pub raised : ℕ → Run → Run
 raised n run = record { rows = run.rows; entries = run.entries; ticks = n + run.ticks }
+
+entry_id : (id : List ℕ) (judged : Judged) → (entry_of id judged).id ≡ id
+entry_id id (Pass rows effects) = refl
+entry_id id (Recalled rows effects) = refl
+entry_id id Void = refl
+entry_id id Stuck = refl
 
 module _ (policy : List PlacedItem) where
   pub run_append : (run : Run) (xs ys : List Command) → run_on policy run (xs ++ ys) ≡ run_on policy (run_on policy run xs) ys
@@ -35,6 +41,17 @@ module _ (policy : List PlacedItem) where
       let more : length (run_on policy next cs).entries ≡ length next.entries + length cs = run_grows next cs in
       let one : length next.entries ≡ length run.entries + 1 = length-append run.entries _ in
       omega (arith, more, one)
+
+  -- in their order, each with its id
+  pub run_names : (run : Run) (cs : List Command) → map (λ e. e.id) (run_on policy run cs).entries ≡ map (λ e. e.id) run.entries ++ map command_id cs
+  run_names run [] = sym (append-nil (map (λ e. e.id) run.entries))
+  run_names run (c ∷ cs) =
+      let judged = call_judged policy run.rows (call_of policy c) in
+      let next = with_call policy run (command_id c) (call_of policy c) in
+      run_names next cs
+      ∙ ap (λ l. l ++ map command_id cs)
+      (map-append (λ (e : Entry). e.id) run.entries (entry_of (command_id c) judged ∷ []) ∙ ap (λ id. map (λ e. e.id) run.entries ++ id ∷ []) (entry_id (command_id c) judged))
+      ∙ append_assoc (map (λ e. e.id) run.entries) (command_id c ∷ []) (map command_id cs)
 
   -- the entries so far begin those at the end
   pub entries_stay : (run : Run) (cs : List Command) → (more : List Entry) × ((run_on policy run cs).entries ≡ run.entries ++ more)

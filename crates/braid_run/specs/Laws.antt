@@ -1,6 +1,7 @@
 -- What the laws say.
 use Rattle.std.specs.Prelude.{◌≡◌, ℕ, ◌↔◌, List, [], ◌∷◌, ◌++◌, length, take}
 use Rattle.braid.specs.Braids.{IsBraid, IsBraidOf, IsBraidTo, IsBraidUnder}
+use Rattle.braid_run.specs.Batches.{Batch, IsBatch}
 use Rattle.braid_run.specs.Places.{AreAtPlace, IsBehind, parent_places}
 use Rattle.braid_run.specs.Published.{IsBehindAll, IsTopped}
 use Rattle.braid_run.specs.RunOf.{IsRunOf}
@@ -35,6 +36,11 @@ pub record BeginsWith (policy : List PlacedItem) (cs : List Command) (f : Comman
 -- What stands up to f in the list stays in this longer list.
 abbrev pub StaysFinal : List PlacedItem → List Command → List Command → Command → Type 0
 StaysFinal policy cs longer f = (braid : List Command) → IsBraid longer braid → BeginsWith policy cs f braid
+
+-- From one list of commands to another there is one batch.
+pub record HasOneBatch (policy : List PlacedItem) (old new : List Command) : Type 0 where
+  pub some : (batch : Batch) × IsBatch policy old new batch
+  pub one : (a b : Batch) → IsBatch policy old new a → IsBatch policy old new b → a ≡ b
 
 -- A command has facts at its place, and no others; they are those under the places of its parents.
 pub record HasPlace (policy : List PlacedItem) (cs : List Command) (c : Command) : Type 0 where

@@ -1,26 +1,29 @@
 //! The laws of runs, over the definitions alone. These functions do nothing; their contracts are the laws.
 
-ghost use Rattle.std.specs.Prelude.{◌≡◌, ◌<◌, ℕ, true, List, [], ◌∷◌, ◌++◌, length, Option};
+ghost use Rattle.std.specs.Prelude.{◌≡◌, ◌<◌, ℕ, true, List, [], ◌∷◌, ◌++◌, length, map, Option};
 ghost use Rattle.std.specs.List.{All, Contains};
 ghost use Rattle.braid.specs.Agreeing.{Agree};
 ghost use Rattle.braid_run.specs.Batches.{AreChanges, Change, all_followed, commands_behind};
-ghost use Rattle.braid_run.specs.Laws.{HasOneRun, HasPlace, HasTip, HaveOneRun, PlaceStays, StaysFinal};
+ghost use Rattle.braid_run.specs.Laws.{HasOneBatch, HasOneRun, HasPlace, HasTip, HaveOneRun, PlaceStays, StaysFinal};
 ghost use Rattle.braid_run.specs.Places.{AreAtPlace};
 ghost use Rattle.braid_run.specs.Published.{ArePublished, IsBehindAll, gone_on};
 ghost use Rattle.braid_run.specs.RunOf.{AreEntriesOf, IsRunOf};
+ghost use Rattle.braid_run.specs.Runs.{run_of};
 ghost use Rattle.braid_run.specs.Soundness.{AreLawful, GoesOn, IsLawful, IsSound, Terms};
 ghost use Rattle.braid_run.specs.States.{Held, IsStanding, MayFollow, extended};
 ghost use Rattle.braid_run.specs.declared.entry.Entry.{Entry};
 ghost use Rattle.command.specs.Ancestors.{AreInLine, heads};
 ghost use Rattle.command.specs.Closed.{IsClosed, IsHeld};
 ghost use Rattle.command.specs.Kinds.{is_finalize, parents_of};
+ghost use Rattle.command.specs.Wire.{command_id};
 ghost use Rattle.command.specs.declared.command.Command.{Command};
 ghost use Rattle.fact_store.specs.declared.row.Row.{Row};
 ghost use Rattle.policy_ast.specs.declared.policy.PlacedItem.{PlacedItem};
 
-/// A closed list of commands has one run: there are facts and entries, and no others.
+/// A closed list of commands has one run: there are facts and entries, and no others. A run has one entry a command, with its id, in their order.
 pub fn lists_have_one_run()
-    ensures { (policy : List PlacedItem) (commands : List Command) → IsClosed commands → HasOneRun policy commands }
+    ensures named { (policy : List PlacedItem) (commands : List Command) → map (λ e. e.id) (run_of policy commands).entries ≡ map command_id commands }
+    ensures one { (policy : List PlacedItem) (commands : List Command) → IsClosed commands → HasOneRun policy commands }
 {}
 
 /// Convergence: closed lists that agree have equal facts and equal entries under one policy, whatever their merges and the orders in which they stand.
@@ -38,8 +41,10 @@ pub fn finality()
 {}
 
 /// Batches: a reader that has the entries of a list, and then follows the batch of each change, has after each of them the entries of what is held.
+/// From one closed list to another there is one batch.
 pub fn batches()
-    ensures { (policy : List PlacedItem) (commands : List Command) (entries : List Entry) (changes : List Change) → IsClosed commands → AreEntriesOf policy commands entries
+    ensures one { (policy : List PlacedItem) (old new : List Command) → IsClosed old → IsClosed new → HasOneBatch policy old new }
+    ensures followed { (policy : List PlacedItem) (commands : List Command) (entries : List Entry) (changes : List Change) → IsClosed commands → AreEntriesOf policy commands entries
         → AreChanges policy commands changes → AreEntriesOf policy (commands_behind commands changes) (all_followed entries changes) }
 {}
 
