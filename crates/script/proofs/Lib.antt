@@ -14,3 +14,4 @@ mod DigitRuns
 mod Turns
 mod NextLines
 mod Readings
+mod PrintedValues

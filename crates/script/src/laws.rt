@@ -1,7 +1,10 @@
 //! Laws over the definitions alone.
 
+ghost use Rattle.std.specs.Prelude.{ℕ};
+ghost use Rattle.base_bytes.specs.declared.arg.Arg.{Arg};
 ghost use Rattle.script.specs.Laws.{HasOneReading, IsOneLine};
 ghost use Rattle.script.specs.Pieces.{Bytes};
+ghost use Rattle.script.specs.Printing.{IsReadAsPrinted};
 
 /// Bytes are at most one line.
 #[tactic(auto, using(crate::proofs::LineLaws::one_line))]
@@ -13,4 +16,10 @@ pub fn bytes_are_one_line()
 #[tactic(auto, using(crate::proofs::ScriptLaws::one_reading))]
 pub fn scripts_have_one_reading()
     ensures { (script : Bytes) → HasOneReading script }
+{}
+
+/// What is printed of a value is an argument that is this value.
+#[tactic(auto, using(crate::proofs::PrintedValues::printed_is_read))]
+pub fn printed_values_are_read()
+    ensures { (deep : ℕ) → (value : Arg) → IsReadAsPrinted deep value }
 {}
