@@ -15,3 +15,4 @@ mod Turns
 mod NextLines
 mod Readings
 mod PrintedValues
+mod QuotedUtf8
