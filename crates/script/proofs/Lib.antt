@@ -14,3 +14,5 @@ mod DigitRuns
 mod Turns
 mod NextLines
 mod Readings
+mod PrintedValues
+mod QuotedUtf8

@@ -5,5 +5,6 @@ pub mod Arguments
 pub mod Lines
 pub mod Scripts
 pub mod Answers
+pub mod Printing
 pub mod Laws
 pub mod working

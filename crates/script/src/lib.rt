@@ -19,6 +19,8 @@ mod runs;
 mod seen;
 
 pub use fault::ScriptFault;
-pub use laws::{bytes_are_one_line, scripts_have_one_reading};
+pub use laws::{
+    bytes_are_one_line, printed_values_are_read, scripts_have_one_reading, texts_in_utf8_are_utf8,
+};
 pub use line::Line;
 pub use reading::read_script;
