@@ -1,10 +1,12 @@
 -- A list of commits grows by one.
-use Rattle.std.proofs.Common.{◌≡◌, ◌∙◌, ap, sym, subst, refl, ℕ, ◌+◌, ◌-◌, ◌≤◌, Bool, false, List, [], ◌∷◌, ◌++◌, length, take, drop, Err, append_assoc, length-append, arith}
+use Rattle.std.proofs.Common.{◌≡◌, ◌∙◌, ap, sym, subst, refl, ℕ, ◌+◌, ◌-◌, ◌≤◌, Bool, false, List, [], ◌∷◌, ◌++◌, length, map, take, drop, Err, append_assoc, length-append, arith}
 use Rattle.std.specs.Int.{w32, to_be_bytes}
 use Rattle.std.proofs.lemmas.List.{append-nil}
 use Rattle.command.specs.Each.{EachAfter}
-use Rattle.journal.specs.Commits.{AreCommits, IsNext, MayStand, command_count, commit_body, count_of, first_gate, gated, gated_from, has_none, next_gate, open_record, records}
+use Rattle.journal.specs.Commits.{AreCommits, IsCommitForm, IsNext, MayStand, command_count, commit_body, count_of, first_gate, gated, gated_from, has_none, next_gate, open_record, records}
 use Rattle.journal.specs.Images.{BeginsWith}
+use Rattle.std.specs.List.{AllByRecursion}
+use Rattle.journal.specs.Journal.{AreOf}
 use Rattle.journal.specs.Outline.{Outline, outline_of, outline_behind}
 use Rattle.journal.specs.working.Ends.{outline_at}
 use Rattle.journal.specs.working.Listing.{Lists}
@@ -110,3 +112,23 @@ refused_list (fault.Damaged offset) commits items end rest behind bytes lists is
 refused_list (fault.OtherPolicy digest) commits items end rest behind bytes lists is = is
 refused_list (fault.DiskFault step) commits items end rest behind bytes lists is = tt
 refused_list fault.NoMemory commits items end rest behind bytes lists is = tt
+
+-- ---- what is known over any disk
+
+map_push : (items : List (ℕ × Commit)) (gate : ℕ) (commit : Commit) → map (λ (item : ℕ × Commit). item.1) (items ++ (gate, commit) ∷ []) ≡ map (λ (item : ℕ × Commit). item.1) items ++ commit ∷ []
+map_push [] gate commit = refl
+map_push (item ∷ items) gate commit = ap (λ l. item.1 ∷ l) (map_push items gate commit)
+
+forms_push : (items : List (ℕ × Commit)) (gate : ℕ) (commit : Commit) → AllByRecursion (λ (item : ℕ × Commit). IsCommitForm item.1) items → IsCommitForm commit → AllByRecursion (λ (item : ℕ × Commit). IsCommitForm item.1) (items ++ (gate, commit) ∷ [])
+forms_push [] gate commit forms form = (form, tt)
+forms_push (item ∷ items) gate commit forms form = (forms.0, forms_push items gate commit forms.1 form)
+
+pub are_of_more : (outline after : Outline) (items : List (ℕ × Commit)) (gate : ℕ) (commit : Commit) → AreOf outline items → IsCommitForm commit → after.commands ≡ outline.commands + count_of commit → after.is_fresh ≡ false →
+    AreOf after (items ++ (gate, commit) ∷ [])
+are_of_more outline after items gate commit are form commands fresh =
+    let those = map (λ (item : ℕ × Commit). item.1) items in
+    record {
+      commands = commands ∙ ap (λ n. n + count_of commit) are.commands ∙ sym (count_push those commit) ∙ ap command_count (sym (map_push items gate commit));
+      fresh = fresh ∙ sym (none_push those commit) ∙ ap has_none (sym (map_push items gate commit));
+      forms = forms_push items gate commit are.forms form;
+    }

@@ -32,6 +32,10 @@ journal_failed journal = journal.failed
 abbrev pub ready_from : Ready → Outline
 ready_from ready = outline_at ready.from
 
+-- the end of the journal once the commit is added
+abbrev pub ready_to : Ready → Outline
+ready_to ready = outline_at ready.to
+
 -- the end of the commits that were read again
 abbrev pub reopened_outline : Reopened → Outline
 reopened_outline reopened = outline_at reopened.end
@@ -52,7 +56,7 @@ CanAdd outline (Commands commands) = AreAddable outline commands
 -- it was made for this commit at this end of a journal
 pub record IsReadyFor (ready : Ready) (outline : Outline) (commit : Commit) : Type 0 where
   pub from : ready_from ready ≡ outline
-  pub to : outline_at ready.to ≡ outline_behind outline commit
+  pub to : ready_to ready ≡ outline_behind outline commit
   pub bytes : ready.bytes ≡ counted w32 (commit_body commit) ++ 0 ∷ []
   pub form : IsCommitForm commit
   pub short : length (commit_body commit) < 2 ^ 32

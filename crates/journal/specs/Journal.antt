@@ -1,11 +1,12 @@
 -- A journal on a disk, and what a crash leaves of it.
-use Rattle.std.specs.Prelude.{◌≡◌, ◌≢◌, ◌⊎◌, ◌≤◌, ℕ, Bool, List, [], ◌∷◌, ◌++◌, Vec, Result, Ok, Err, Option, Some, ⊤}
+use Rattle.std.specs.Prelude.{map, ◌≡◌, ◌≢◌, ◌⊎◌, ◌≤◌, ℕ, Bool, List, [], ◌∷◌, ◌++◌, Vec, Result, Ok, Err, Option, Some, ⊤}
 use Rattle.std.specs.declared.alloc.Global.{Global}
 use Rattle.outside.specs.Causes.{Rose}
 use Rattle.outside.specs.Crashes.{MayLeave}
 use Rattle.outside.specs.Disk.{Content, at_rest}
 use Rattle.outside.specs.declared.faults.DiskStep.{DiskStep}
-use Rattle.journal.specs.Commits.{gated}
+use Rattle.journal.specs.Commits.{IsCommitForm, command_count, gated, has_none}
+use Rattle.std.specs.List.{AllByRecursion}
 use Rattle.journal.specs.Images.{ReadsAs, Splits, Holds, Damaged, OtherPolicy}
 use Rattle.journal.specs.Outline.{Outline, outline_of}
 use Rattle.journal.specs.declared.commit.Commit.{Commit}
@@ -47,6 +48,12 @@ OpenFailsWith (Err (fault.Damaged offset)) before now last = ⊤
 OpenFailsWith (Err (fault.OtherPolicy digest)) before now last = ⊤
 OpenFailsWith (Err (fault.DiskFault step)) before now last = Rose before now × (last ≡ Some step)
 OpenFailsWith (Err fault.NoMemory) before now last = ⊤
+
+-- what is told of the commits that opening answered, and of the outline, over any disk
+pub record AreOf (outline : Outline) (items : List (ℕ × Commit)) : Type 0 where
+  pub commands : outline.commands ≡ command_count (map (λ item. item.1) items)
+  pub fresh : outline.is_fresh ≡ has_none (map (λ item. item.1) items)
+  pub forms : AllByRecursion (λ item. IsCommitForm item.1) items
 
 -- the disk is honest where it was, its count doesn't fall, and a disk fault has its cause
 pub record OpenWrites {D X : Type 0} (honest : D → Bool) (faults : D → ℕ) (last_step : D → Option DiskStep) (old new : D) (result : Result X OpenFault) : Type 0 where

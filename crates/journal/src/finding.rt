@@ -1,7 +1,7 @@
 // What a disk holds, read from its first gate on.
 ghost use Rattle.std.specs.Prelude.{◌≡◌, ◌+◌, ◌<◌, ◌≤◌, [], ◌∷◌, ◌++◌, IsTrue, IfOk, IfSome, OnOk, length};
 ghost use Rattle.journal.specs.working.Faults.{first_fault};
-ghost use Rattle.journal.specs.working.Opening.{Finds, OpenLooks, ReadsFirst, ReadsFirstGate};
+ghost use Rattle.journal.specs.working.Opening.{Finds, IsListed, OpenLooks, ReadsFirst, ReadsFirstGate};
 ghost use Rattle.journal.specs.working.Scanning.{left};
 
 use crate::fault::OpenFault;
@@ -67,6 +67,7 @@ fn find_records<D: Disk>(
     requires within { IsTrue D.tells → span.old.end ≤ length (D.content disk.old).reads }
     requires place { span.old.place ≡ 1 }
     requires more { span.old.place < span.old.end }
+    ensures listed { IfOk result IsListed }
     ensures found { IsTrue D.tells → Finds digest.now (1 ∷ left (D.content disk.old).reads span.old) result }
     ensures disk { OpenLooks D.tells D.content D.honest D.faults D.last_step disk.old disk.new result }
 {
@@ -80,6 +81,7 @@ fn find_records<D: Disk>(
 
 /// What the disk holds, for the policy with this digest.
 pub fn find<D: Disk>(alloc: Global, disk: &mut D, digest: &Id) -> Result<Found, OpenFault>
+    ensures listed { IfOk result IsListed }
     ensures found { IsTrue D.tells → Finds digest.now (D.content disk.old).reads result }
     ensures disk { OpenLooks D.tells D.content D.honest D.faults D.last_step disk.old disk.new result }
 {

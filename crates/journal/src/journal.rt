@@ -1,9 +1,9 @@
 ghost use Rattle.std.specs.Prelude.{◌≡◌, false, IsTrue, IfErr, IfOk, OnErr, OnOk, List, ◌∷◌, ◌++◌, [], ℕ, ◌≤◌, is_err};
 ghost use Rattle.outside.specs.Causes.{Rose};
 ghost use Rattle.outside.specs.Crashes.{LeavesOnly};
-ghost use Rattle.journal.specs.Calls.{CanAdd, IsReadyFor, disk_after, failed_after, journal_disk, journal_failed, journal_outline, ready_from, reopened_outline, without_disk};
+ghost use Rattle.journal.specs.Calls.{CanAdd, IsReadyFor, disk_after, failed_after, journal_disk, journal_failed, journal_outline, ready_from, ready_to, reopened_outline, without_disk};
 ghost use Rattle.journal.specs.Commits.{gated};
-ghost use Rattle.journal.specs.Journal.{IsBeforeOrAfter, IsSettled, Opens, OpenWrites, WasOrReadsAlike};
+ghost use Rattle.journal.specs.Journal.{AreOf, IsBeforeOrAfter, IsSettled, Opens, OpenWrites, WasOrReadsAlike};
 ghost use Rattle.journal.specs.declared.commit.Commit.{Commit as ACommit};
 
 use crate::bodies::make_ready;
@@ -39,6 +39,7 @@ pub fn open_journal<D: Disk>(
     ensures any_moment { IsTrue D.tells → IsTrue (D.honest disk) →
         LeavesOnly (D.content disk) (D.content (disk_after result)) (WasOrReadsAlike digest.now (D.content disk)) }
     ensures works { IfOk result (λ found. journal_failed found.0 ≡ false) }
+    ensures listed { IfOk result (λ found. AreOf (journal_outline found.0) found.1.items) }
     ensures cause { OpenWrites D.honest D.faults D.last_step disk (disk_after result) (without_disk result) }
 {
     let mut disk = disk;
@@ -79,6 +80,7 @@ impl<D: Disk> Journal<D> {
             IsSettled (D.content (journal_disk self.old)) (journal_outline self.old) digest commits → IsReadyFor ready (journal_outline self.old) commit →
             LeavesOnly (D.content (journal_disk self.old)) (D.content (journal_disk self.new)) (IsBeforeOrAfter digest commits commit) }
         ensures failed { journal_failed self.new ≡ is_err result }
+        ensures outline { OnOk result (journal_outline self.new ≡ ready_to ready) }
         ensures same { OnErr result (journal_outline self.new ≡ journal_outline self.old) }
         ensures honest { D.honest (journal_disk self.new) ≡ D.honest (journal_disk self.old) }
         ensures later { D.faults (journal_disk self.old) ≤ D.faults (journal_disk self.new) }
@@ -109,6 +111,7 @@ impl<D: Disk> Journal<D> {
         ensures any_moment { IsTrue D.tells → IsTrue (D.honest (journal_disk self.old)) →
             LeavesOnly (D.content (journal_disk self.old)) (D.content (journal_disk self.new)) (WasOrReadsAlike digest.now (D.content (journal_disk self.old))) }
         ensures same { journal_outline self.new ≡ journal_outline self.old }
+        ensures listed { IfOk result (λ found. AreOf (reopened_outline found.0) found.1.items) }
         ensures failed { journal_failed self.new ≡ failed_after result (journal_failed self.old) }
         ensures cause { OpenWrites D.honest D.faults D.last_step (journal_disk self.old) (journal_disk self.new) result }
     {

@@ -1,8 +1,10 @@
 // The commits of a journal behind its first record, gate by gate.
 ghost use Rattle.std.specs.Prelude.{◌≡◌, ◌+◌, ◌<◌, ◌≤◌, [], ◌∷◌, ◌++◌, IsTrue, IfErr, IfOk, IfSome, OnOk, length};
-ghost use Rattle.journal.specs.Commits.{MayStand};
+ghost use Rattle.journal.specs.Commits.{IsCommitForm, MayStand};
 ghost use Rattle.journal.specs.declared.fault.OpenFault.{OpenFault};
 ghost use Rattle.journal.specs.working.Opening.{OpenLooks, ReadsCommits, ReadsGate};
+ghost use Rattle.journal.specs.Journal.{AreOf};
+ghost use Rattle.journal.specs.working.Ends.{outline_at};
 ghost use Rattle.journal.specs.working.Scanning.{left};
 ghost use Rattle.journal.specs.working.Sizes.{Takes};
 
@@ -27,6 +29,7 @@ fn read_gate<D: Disk>(
     requires more { span.old.place < span.old.end }
     ensures next { IsTrue D.tells → ReadsGate end.now.is_fresh end.now.gate result (left (D.content disk.new).reads span.new) (left (D.content disk.old).reads span.old) }
     ensures end { span.new.end ≡ span.old.end }
+    ensures form { IfOk result (λ found. IfSome found (λ commit. IsCommitForm commit)) }
     ensures size { IfOk result (λ found. IfSome found (λ commit. Takes commit (span.old.place + 5) span.new.place)) }
     ensures place { IfOk result (λ found. IfSome found (λ commit. MayStand end.now.is_fresh commit)) }
     ensures more { IfOk result (λ found. IfSome found (λ commit. span.new.place < span.new.end)) }
@@ -59,6 +62,7 @@ pub fn read_list<D: Disk>(
     requires place { span.old.place ≡ 38 }
     requires more { span.old.place < span.old.end }
     ensures commits { IsTrue D.tells → ReadsCommits result (left (D.content disk.old).reads span.old) }
+    ensures listed { IfOk result (λ found. AreOf (outline_at found.0) found.1.items) }
     ensures disk { OpenLooks D.tells D.content D.honest D.faults D.last_step disk.old disk.new result }
 {
     let mut end = first_end();

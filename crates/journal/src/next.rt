@@ -1,6 +1,6 @@
 // What stands at the next gate.
 ghost use Rattle.std.specs.Prelude.{◌≡◌, ◌+◌, ◌<◌, ◌≤◌, IsTrue, IfOk, IfSome, length};
-ghost use Rattle.journal.specs.Commits.{MayStand};
+ghost use Rattle.journal.specs.Commits.{IsCommitForm, MayStand};
 ghost use Rattle.journal.specs.working.Opening.{ReadsNext};
 ghost use Rattle.journal.specs.working.Scanning.{Looks, left};
 ghost use Rattle.journal.specs.working.Sizes.{Takes};
@@ -28,6 +28,7 @@ pub fn read_next<D: Disk>(
     requires more { span.old.place < span.old.end }
     ensures next { IsTrue D.tells → ReadsNext is_fresh result (left (D.content disk.new).reads span.new) (left (D.content disk.old).reads span.old) }
     ensures end { span.new.end ≡ span.old.end }
+    ensures form { IfOk result (λ found. IfSome found (λ commit. IsCommitForm commit)) }
     ensures size { IfOk result (λ found. IfSome found (λ commit. Takes commit (span.old.place + 5) span.new.place)) }
     ensures place { IfOk result (λ found. IfSome found (λ commit. MayStand is_fresh commit)) }
     ensures more { IfOk result (λ found. IfSome found (λ commit. span.new.place < span.new.end)) }

@@ -3,7 +3,7 @@ ghost use Rattle.std.specs.Prelude.{◌≡◌, [], IsTrue, IfOk, IfErr, IsOk, Is
 ghost use Rattle.outside.specs.Crashes.{LeavesOnly};
 ghost use Rattle.journal.specs.Commits.{gated};
 ghost use Rattle.journal.specs.declared.commit.Commit.{Commit};
-ghost use Rattle.journal.specs.Journal.{IsSettled, Opens, OpenWrites, WasOrReadsAlike};
+ghost use Rattle.journal.specs.Journal.{AreOf, IsSettled, Opens, OpenWrites, WasOrReadsAlike};
 ghost use Rattle.journal.specs.Outline.{outline_of};
 ghost use Rattle.journal.specs.declared.fault.OpenFault.{OpenFault};
 ghost use Rattle.journal.specs.working.Ends.{outline_at};
@@ -39,6 +39,7 @@ pub fn recover<D: Disk>(
     disk: &mut D,
     digest: &Id,
 ) -> Result<(End, Vec<(u64, Commit)>), OpenFault>
+    ensures listed { IfOk result (λ found. AreOf (outline_at found.0) found.1.items) }
     ensures opens { IsTrue D.tells → Opens digest.now (D.content disk.old).reads result }
     ensures settled { IsTrue D.tells → IsTrue (D.honest disk.old) → IfOk result (λ found. (commits : List Commit) ×
         IsSettled (D.content disk.new) (outline_at found.0) digest.now commits × (found.1.items ≡ gated commits)) }

@@ -62,6 +62,7 @@ pub fn read_id<D: Disk>(disk: &mut D, span: &mut Span) -> Result<Id, Stop>
     requires within { IsTrue D.tells → span.old.end ≤ length (D.content disk.old).reads }
     ensures read { IsTrue D.tells → Reads (λ id. id) result (left (D.content disk.new).reads span.new)
         (bytes_at 32 (left (D.content disk.old).reads span.old)) }
+    ensures size { IfOk result (λ id. length id ≡ 32) }
     ensures end { span.new.end ≡ span.old.end }
     ensures place { OnOk result (span.new.place ≡ span.old.place + 32) }
     ensures disk { Looks D.tells D.content D.honest D.faults D.last_step disk.old disk.new result }

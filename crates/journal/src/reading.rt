@@ -1,11 +1,13 @@
 // Commits as they stand on a disk, read one behind the other.
-ghost use Rattle.std.specs.Prelude.{◌≡◌, ◌+◌, ◌*◌, ◌<◌, ◌≤◌, IsTrue, IfOk, OnOk, length, nat_le, replicate};
+ghost use Rattle.std.specs.Prelude.{All, ◌≡◌, ◌+◌, ◌*◌, ◌<◌, ◌≤◌, IsTrue, IfOk, OnOk, length, nat_le, replicate};
 ghost use Rattle.std.specs.Int.{w32};
 ghost use Rattle.base_bytes.specs.Reading.{in_order, listed_at, number_at, passing};
 ghost use Rattle.command.specs.Reading.{command_at};
 ghost use Rattle.journal.specs.working.Reading.{commit_at, counted_command_at, listed_commands_at, sized_at};
 ghost use Rattle.journal.specs.working.Sizes.{Takes};
 ghost use Rattle.journal.specs.working.Scanning.{FailsNever, Looks, Reads, ReadsAll, left};
+ghost use Rattle.command.specs.Wire.{IsFormed};
+ghost use Rattle.journal.specs.Commits.{IsCommitForm};
 
 use crate::commit::Commit;
 use crate::pieces::{read_id, read_piece, read_u8, read_u32};
@@ -21,6 +23,7 @@ const MAX_COMMAND: u32 = 4301;
 // The command whose bytes these are.
 fn read_whole(alloc: Global, bytes: &[u8]) -> Result<Command, Stop>
     ensures read { ReadsAll result (command_at bytes.now) }
+    ensures form { IfOk result (λ command. IsFormed command) }
     ensures fault { FailsNever result }
 {
     match from_bytes(alloc, bytes)? {
@@ -39,6 +42,7 @@ fn read_sized<D: Disk>(
     requires within { IsTrue D.tells → span.old.end ≤ length (D.content disk.old).reads }
     ensures read { IsTrue D.tells → Reads (λ command. command) result (left (D.content disk.new).reads span.new)
         (sized_at command_at (length bytes.old) (left (D.content disk.old).reads span.old)) }
+    ensures form { IfOk result (λ command. IsFormed command) }
     ensures end { span.new.end ≡ span.old.end }
     ensures place { OnOk result (span.new.place ≡ span.old.place + length bytes.old) }
     ensures disk { Looks D.tells D.content D.honest D.faults D.last_step disk.old disk.new result }
@@ -52,6 +56,7 @@ fn read_command<D: Disk>(alloc: Global, disk: &mut D, span: &mut Span) -> Result
     requires within { IsTrue D.tells → span.old.end ≤ length (D.content disk.old).reads }
     ensures read { IsTrue D.tells → Reads (λ command. command) result (left (D.content disk.new).reads span.new)
         (counted_command_at (left (D.content disk.old).reads span.old)) }
+    ensures form { IfOk result (λ command. IsFormed command) }
     ensures end { span.new.end ≡ span.old.end }
     ensures least { OnOk result (span.old.place + 4 ≤ span.new.place) }
     ensures most { OnOk result (span.new.place ≤ span.old.place + 4305) }
@@ -74,6 +79,7 @@ fn repeat_command<D: Disk>(
     requires within { IsTrue D.tells → span.old.end ≤ length (D.content disk.old).reads }
     ensures read { IsTrue D.tells → Reads (λ commands. commands) result (left (D.content disk.new).reads span.new)
         (in_order (replicate count counted_command_at) (left (D.content disk.old).reads span.old)) }
+    ensures forms { IfOk result (λ commands. All IsFormed commands) }
     ensures end { span.new.end ≡ span.old.end }
     ensures least { IfOk result (λ commands. span.old.place + 4 * length commands ≤ span.new.place) }
     ensures most { IfOk result (λ commands. span.new.place ≤ span.old.place + 4305 * length commands) }
@@ -103,6 +109,7 @@ fn read_commands<D: Disk>(alloc: Global, disk: &mut D, span: &mut Span) -> Resul
     requires within { IsTrue D.tells → span.old.end ≤ length (D.content disk.old).reads }
     ensures read { IsTrue D.tells → Reads (λ commands. commands) result (left (D.content disk.new).reads span.new)
         (listed_commands_at (left (D.content disk.old).reads span.old)) }
+    ensures forms { IfOk result (λ commands. All IsFormed commands) }
     ensures end { span.new.end ≡ span.old.end }
     ensures some { IfOk result (λ commands. 0 < length commands) }
     ensures least { IfOk result (λ commands. span.old.place + 4 + 4 * length commands ≤ span.new.place) }
@@ -122,6 +129,7 @@ pub fn read_commit<D: Disk>(alloc: Global, disk: &mut D, span: &mut Span) -> Res
     requires within { IsTrue D.tells → span.old.end ≤ length (D.content disk.old).reads }
     ensures read { IsTrue D.tells → Reads (λ commit. commit) result (left (D.content disk.new).reads span.new)
         (commit_at (left (D.content disk.old).reads span.old)) }
+    ensures form { IfOk result (λ commit. IsCommitForm commit) }
     ensures end { span.new.end ≡ span.old.end }
     ensures size { IfOk result (λ commit. Takes commit span.old.place span.new.place) }
     ensures disk { Looks D.tells D.content D.honest D.faults D.last_step disk.old disk.new result }

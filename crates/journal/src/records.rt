@@ -2,6 +2,7 @@
 ghost use Rattle.std.specs.Prelude.{◌≡◌, ◌+◌, ◌<◌, ◌≤◌, IsTrue, IfOk, OnOk, length};
 ghost use Rattle.std.specs.Int.{w32};
 ghost use Rattle.base_bytes.specs.Reading.{counted_at};
+ghost use Rattle.journal.specs.Commits.{IsCommitForm};
 ghost use Rattle.journal.specs.working.Reading.{commit_at, leaving, policy_at, record_at};
 ghost use Rattle.journal.specs.working.Sizes.{Takes};
 ghost use Rattle.journal.specs.working.Scanning.{Looks, Reads, ReadsAll, left};
@@ -45,6 +46,7 @@ fn open_body<D: Disk>(disk: &mut D, span: &mut Span) -> Result<Span, Stop>
 fn read_body<D: Disk>(alloc: Global, disk: &mut D, body: Span) -> Result<Commit, Stop>
     requires within { IsTrue D.tells → body.end ≤ length (D.content disk.old).reads }
     ensures read { IsTrue D.tells → ReadsAll result (commit_at (left (D.content disk.old).reads body)) }
+    ensures form { IfOk result (λ commit. IsCommitForm commit) }
     ensures size { IfOk result (λ commit. Takes commit body.place body.end) }
     ensures disk { Looks D.tells D.content D.honest D.faults D.last_step disk.old disk.new result }
 {
@@ -91,6 +93,7 @@ pub fn read_record<D: Disk>(alloc: Global, disk: &mut D, span: &mut Span) -> Res
     ensures read { IsTrue D.tells → Reads (λ commit. commit) result (left (D.content disk.new).reads span.new)
         (record_at commit_at (left (D.content disk.old).reads span.old)) }
     ensures end { span.new.end ≡ span.old.end }
+    ensures form { IfOk result (λ commit. IsCommitForm commit) }
     ensures size { IfOk result (λ commit. Takes commit (span.old.place + 4) span.new.place) }
     ensures more { OnOk result (span.new.place < span.new.end) }
     ensures disk { Looks D.tells D.content D.honest D.faults D.last_step disk.old disk.new result }

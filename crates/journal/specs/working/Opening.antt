@@ -10,7 +10,7 @@ use Rattle.outside.specs.Crashes.{LeavesOnly}
 use Rattle.outside.specs.Disk.{at_rest}
 use Rattle.journal.specs.declared.commit.Commit.{Commit}
 use Rattle.std.specs.declared.alloc.Global.{Global}
-use Rattle.journal.specs.Journal.{OpenFailsWith, WasOrReadsAlike}
+use Rattle.journal.specs.Journal.{AreOf, OpenFailsWith, WasOrReadsAlike}
 use Rattle.journal.specs.Outline.{outline_of}
 use Rattle.journal.specs.working.Ends.{outline_at}
 use Rattle.journal.specs.working.Scanning.{Keeps}
@@ -137,3 +137,9 @@ pub record StartsOn (is_short : Bool) (digest : List ℕ) (entry old : Content) 
   pub rests : old.now ≡ at_rest old.reads
   pub short : is_short ≡ true → length old.reads < 2
   pub shut : is_short ≡ false → slice_index old.reads 0 ≢ 1
+
+-- commits that were found, over any disk
+abbrev pub IsListed : Found → Type 0
+IsListed found.Short = ⊤
+IsListed found.Fresh = ⊤
+IsListed (found.Held end commits) = AreOf (outline_at end) commits.items

@@ -1,9 +1,10 @@
 use Rattle.std.proofs.Common.{◌≡◌, ◌∙◌, ◌++◌, ◌∷◌, [], ◌-◌, ◌≤◌, take, drop}
 use Rattle.journal.specs.Commits.{next_gate}
+use Rattle.journal.specs.working.Ends.{outline_at}
 use Rattle.journal.specs.working.Opening.{IsFirst}
 use Rattle.journal.specs.working.Scanning.{left}
 use Rattle.journal.proofs.Looking.{keeps_then}
-use Rattle.journal.proofs.OneMore.{listed_more, place_behind}
+use Rattle.journal.proofs.OneMore.{are_of_more, listed_more, place_behind}
 use Rattle.journal.proofs.listing.read_list.Goals as goal
 
 pub loop-commits-preserved : goal.loop-commits-preserved
@@ -28,5 +29,7 @@ loop-commits-preserved g c =
             so_far.0 ++ c.in-Some.commit ∷ [],
             listed_more so_far.0 c.loop-commits.commits.items c.loop-commits.end c.end_behind-next.result c.in-Some.commit (left reads span) (left (g.D.Disk.content c.read_gate.new.disk).reads after) _ so_far.1 first gate_too c.end_behind-next.ensures.commands c.end_behind-next.ensures.fresh,
           );
+      listed = rw c.in_ok-add.ensures.ok (are_of_more (outline_at c.loop-commits.end) (outline_at c.end_behind-next.result) c.loop-commits.commits.items c.loop-commits.end.gate c.in-Some.commit c.loop-commits.invariant.listed
+          (rw c.in-Some.is at c.in_ok-commit.ensures.form) c.end_behind-next.ensures.commands c.end_behind-next.ensures.fresh);
       disk = keeps_then _ _ _ c.loop-commits.invariant.disk c.read_gate.ensures.disk.kept;
     }

@@ -1,5 +1,7 @@
 use Rattle.std.proofs.Common.{rules, replicate, length, arith, ◌≡◌, ◌+◌, ◌∙◌, ap}
 use Rattle.std.proofs.lemmas.List.{length_push}
+use Rattle.std.proofs.lemmas.List.Elements.{All-push}
+use Rattle.command.specs.Wire.{IsFormed}
 use Rattle.std.proofs.lemmas.Result.{err_from_is_err_and}
 use Rattle.base_bytes.specs.Reading.{in_order}
 use Rattle.base_bytes.proofs.InOrder.{next_repeated}
@@ -23,6 +25,7 @@ loop-preserved g c =
     record {
       within = search rules;
       read = λ told. rw c.in_ok-push.ensures.ok (next_repeated counted_command_at c.args.count c.loop.counter c.loop.commands (left (g.D.Disk.content c.loop.disk).reads c.loop.span) whole (c.loop.invariant.read told) c.in_ok-read_command.field-0 (left (g.D.Disk.content c.read_command.new.disk).reads c.read_command.new.span) c.loop-test.true (c.in_ok-read_command.ensures.read told));
+      forms = rw c.in_ok-push.ensures.ok (All-push IsFormed c.loop.commands c.in_ok-read_command.field-0 c.loop.invariant.forms c.in_ok-read_command.ensures.form);
       end = search rules;
       least = omega (arith, one, c.loop.invariant.least, c.in_ok-read_command.ensures.least);
       most = omega (arith, one, c.loop.invariant.most, c.in_ok-read_command.ensures.most);
