@@ -1,0 +1,11 @@
+mod Committed
+mod Forms
+mod Founds
+mod Gates
+mod OneMore
+mod Looking
+mod OneReading
+mod Readings
+mod Spans
+mod Starts
+mod Torn
