@@ -1,17 +1,20 @@
 //! Calls that no command of the program reaches, made often: the scripts in `bench/` take the time. `benches read SIZE ROUNDS`,
-//! `benches braid SHAPE SIZE ROUNDS` and `benches write ROUNDS` make one call so many times; without words each call is made a few
+//! `benches braid SHAPE SIZE ROUNDS` and `benches write ROUNDS` make one call so many times; `benches open FILE` opens a journal, and
+//! `benches scan FILE` reads its file; without words each call is made a few
 //! times.
 #![tactic(auto)]
 
 mod disk;
 mod graphs;
+mod journals;
 mod responses;
 
 use crate::disk::write_at_end;
 use crate::graphs::{Ask, Shape, run as run_graph};
+use crate::journals::{open_at, scan_at};
 use crate::responses::{Call, Size, run};
 use base_bytes::NoMemory;
-use std::{env, io};
+use std::{env, fs, io};
 
 fn call_of(word: &str) -> Option<Call> {
     match word {
@@ -115,7 +118,7 @@ fn report_disk(rt: &HostRuntime, rounds: u32) -> io::Result<()> {
 
 fn usage(rt: &HostRuntime) -> io::Result<()> {
     println!(rt;
-        "usage: benches read|copy 4096|100 ROUNDS, or benches braid|ancestor strands|chain|diamonds|writers SIZE ROUNDS, or benches write ROUNDS"
+        "usage: benches read|copy 4096|100 ROUNDS, or benches braid|ancestor strands|chain|diamonds|writers SIZE ROUNDS, or benches write ROUNDS, or benches open|scan FILE"
     )
 }
 
@@ -146,9 +149,33 @@ fn report_graph_words(
     }
 }
 
-fn report_disk_words(rt: &HostRuntime, call: &str, rounds: &str) -> io::Result<()> {
-    match (call, rounds_of(rounds)) {
+fn report_open(rt: &HostRuntime, path: &str) -> io::Result<()> {
+    let held = open_at(rt, path)?;
+    println!(rt;
+        "open: {} commits, {} commands",
+        held.commits, held.commands
+    )
+}
+
+fn report_scan(rt: &HostRuntime, path: &str) -> io::Result<()> {
+    let bytes = scan_at(rt, path)?;
+    println!(rt; "scan: {bytes} bytes")
+}
+
+// A journal in a file of its own, begun and opened again.
+fn report_journal(rt: &HostRuntime) -> io::Result<()> {
+    let path = "benches_journal.bin";
+    report_open(rt, path)?;
+    report_open(rt, path)?;
+    report_scan(rt, path)?;
+    fs::remove_file(rt, path)
+}
+
+fn report_two_words(rt: &HostRuntime, call: &str, word: &str) -> io::Result<()> {
+    match (call, rounds_of(word)) {
         ("write", Some(rounds)) => report_disk(rt, rounds),
+        ("open", _) => report_open(rt, word),
+        ("scan", _) => report_scan(rt, word),
         _ => usage(rt),
     }
 }
@@ -167,7 +194,8 @@ fn report_all(rt: &HostRuntime) -> io::Result<()> {
         report_graph(rt, Ask::Braid, shape, 20, 3)?;
         report_graph(rt, Ask::Ancestor, shape, 20, 3)?;
     }
-    report_disk(rt, 3)
+    report_disk(rt, 3)?;
+    report_journal(rt)
 }
 
 fn main(rt: HostRuntime) -> io::Result<()> {
@@ -178,7 +206,7 @@ fn main(rt: HostRuntime) -> io::Result<()> {
             report_graph_words(&rt, &ask, &shape, &size, &rounds)
         }
         (Some(call), Some(size), Some(rounds), None) => report_words(&rt, &call, &size, &rounds),
-        (Some(call), Some(rounds), None, None) => report_disk_words(&rt, &call, &rounds),
+        (Some(call), Some(word), None, None) => report_two_words(&rt, &call, &word),
         (Some(_), _, _, _) => usage(&rt),
         _ => report_all(&rt),
     }

@@ -28,7 +28,7 @@ policy_first digest rest bytes are is =
     let t = policy_record_format.takes bytes (digest, rest) are some.0 in
     record { size = t.1.0; more = some.1; front = t.0 }
 
-no_policy : (bytes : List ℕ) → record_at policy_at bytes ≡ None → (other : List ℕ) → length other ≡ 32 → BeginsWith (policy_body other) (1 ∷ bytes) → ⊥
+pub no_policy : (bytes : List ℕ) → record_at policy_at bytes ≡ None → (other : List ℕ) → length other ≡ 32 → BeginsWith (policy_body other) (1 ∷ bytes) → ⊥
 no_policy bytes none other size (gate, behind, parts) =
     let told : bytes ≡ counted w32 (policy_body other) ++ gate ∷ behind = (tails 1 1 bytes (counted w32 (policy_body other) ++ gate ∷ behind) parts).1 in
     no_value (sym none ∙ read_before_gate policy_record_format other gate behind bytes (size, omega (arith, size)) told)
@@ -48,7 +48,7 @@ gate_of (gate ∷ behind) more = (gate, behind, refl)
 
 -- ---- the records behind the first gate
 
-begun_there : (bytes : List ℕ) → 0 < length bytes → IsBegun (1 ∷ bytes)
+pub begun_there : (bytes : List ℕ) → 0 < length bytes → IsBegun (1 ∷ bytes)
 begun_there bytes more = record { long = omega (arith, more); is_open = refl }
 
 pub policy_refused : (error : OpenFault) (digest rest bytes : List ℕ) → 0 < length bytes → ReadsFirst (Err error) rest bytes → Finds digest (1 ∷ bytes) (Err error)

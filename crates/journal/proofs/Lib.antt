@@ -6,6 +6,7 @@ mod OneMore
 mod Looking
 mod OneReading
 mod Readings
+mod SomeReading
 mod Spans
 mod Starts
 mod Torn

@@ -26,7 +26,7 @@ mod writes;
 pub use commit::Commit;
 pub use fault::OpenFault;
 pub use journal::{Journal, open_journal};
-pub use laws::{images_read_as_one_thing, settled_journals_survive};
+pub use laws::{each_image_reads_as_something, images_read_as_one_thing, settled_journals_survive};
 pub use outside::DiskStep;
 pub use ready::Ready;
 pub use reopened::Reopened;
