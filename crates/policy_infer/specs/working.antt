@@ -1,0 +1,4 @@
+-- What the private calls are shown by, step by step.
+pub mod Answers
+pub mod Types
+pub mod ScopeViews

@@ -1,0 +1,25 @@
+-- What private calls answer, and what they leave of the scope that they were lent.
+use Rattle.std.specs.Prelude.{◌≡◌, List, take, length, Option, Some, None, Result, Ok, Err, ⊤}
+use Rattle.policy_infer.specs.declared.refusal.Refusal.{Refusal}
+use Rattle.policy_infer.specs.declared.refusal.Refusal.TheVariants as refusal
+use Rattle.policy_rules.specs.Scopes.{Scope}
+
+-- A call answered what a definition gives, or that it gives nothing. Out of memory says nothing.
+abbrev pub Judges : {A : Type 0} → Result A Refusal → Option A → Type 0
+Judges (Ok x) found = found ≡ Some x
+Judges (Err refusal.IllTyped) found = found ≡ None
+Judges (Err refusal.NoMemory) found = ⊤
+
+-- A scope begins with another, as it was lent.
+abbrev pub Keeps : Scope → Scope → Type 0
+Keeps before after = take (length before) after ≡ before
+
+-- A call answered what a definition gives in a scope, and left the scope as it was.
+pub record Infers {A : Type 0} (result : Result A Refusal) (found : Scope → Option A) (before after : Scope) : Type 0 where
+  pub judged : Judges result (found before)
+  pub kept : after ≡ before
+
+-- A call answered what a definition gives in a scope, and may have put names behind it.
+pub record InfersWithin {A : Type 0} (result : Result A Refusal) (found : Scope → Option A) (before after : Scope) : Type 0 where
+  pub judged : Judges result (found before)
+  pub kept : Keeps before after

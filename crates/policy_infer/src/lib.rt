@@ -1,0 +1,9 @@
+//! The types of expressions, and whether the bodies of functions, actions, finish functions and blocks of commands are well typed.
+#![tactic(auto)]
+
+mod forms;
+mod refusal;
+mod scope;
+
+use refusal::Refusal;
+use scope::Scope;
