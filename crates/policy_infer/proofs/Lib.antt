@@ -1,3 +1,4 @@
 -- Lemmas of this crate.
 pub mod ScopeFacts
 pub mod FormTypes
+pub mod FieldFacts

@@ -1,7 +1,9 @@
 -- What private calls answer, and what they leave of the scope that they were lent.
-use Rattle.std.specs.Prelude.{◌≡◌, List, take, length, Option, Some, None, Result, Ok, Err, ⊤}
+use Rattle.std.specs.Prelude.{◌≡◌, true, false, List, take, length, Option, Some, None, Result, Ok, Err, ⊤}
 use Rattle.policy_infer.specs.declared.refusal.Refusal.{Refusal}
 use Rattle.policy_infer.specs.declared.refusal.Refusal.TheVariants as refusal
+use Rattle.policy_rules.specs.FieldLists.{are_distinct}
+use Rattle.policy_rules.specs.Names.{Name, is_among}
 use Rattle.policy_rules.specs.Scopes.{Scope}
 
 -- A call answered what a definition gives, or that it gives nothing. Out of memory says nothing.
@@ -23,3 +25,8 @@ pub record Infers {A : Type 0} (result : Result A Refusal) (found : Scope → Op
 pub record InfersWithin {A : Type 0} (result : Result A Refusal) (found : Scope → Option A) (before after : Scope) : Type 0 where
   pub judged : Judges result (found before)
   pub kept : Keeps before after
+
+-- The set has just these names, and there is none where two of them are the same.
+abbrev pub AreNames : List Name → Option (List Name) → Type 0
+AreNames names None = are_distinct names ≡ false
+AreNames names (Some set) = (are_distinct names ≡ true) × ((name : Name) → is_among name set ≡ is_among name names)
