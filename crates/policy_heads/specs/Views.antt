@@ -1,5 +1,5 @@
 -- How the contracts see what is known of facts, functions and enums.
-use Rattle.std.specs.Prelude.{Bool, false, List, Option, option_map, unwrap_or}
+use Rattle.std.specs.Prelude.{Bool, false, List, option_map, unwrap_or}
 use Rattle.policy_ast.specs.declared.item.Item.{Item}
 use Rattle.policy_rules.specs.Heads.{FactHead, FunctionHead, enum_named}
 use Rattle.policy_rules.specs.Names.{Name, is_among}

@@ -180,7 +180,9 @@ impl<'a> Head<'a> {
     {
         match self.item {
             Item::Fact {
-                is_immutable, keys, ..
+                is_immutable,
+                keys,
+                ..
             } => {
                 let (keys, values) = self.fields().split_at(keys.as_slice().len());
                 Some(FactHead {

@@ -11,7 +11,7 @@ ghost use Rattle.policy_heads.specs.working.Kept.{kept_fields, kept_number};
 
 use crate::head::{FactHead, FunctionHead, Head, form_type};
 use crate::names::NameSet;
-use base_bytes::NoMemory;
+use base_bytes::{NoMemory, Text};
 use policy_ast::{FieldType, Item, Literal, Name, PlacedItem, Policy};
 use policy_rules::{Named, NamedType};
 use std::alloc::Global;
@@ -119,6 +119,13 @@ fn lets_of<'a>(alloc: Global, items: &'a [PlacedItem]) -> Result<NameSet<'a>, No
         put_let(&mut lets, &placed.item)?;
     }
     Ok(lets)
+}
+
+/// Whether a text is short enough for a value.
+fn fits_text(text: &Text) -> bool
+    ensures { result ≡ fits_text text.now }
+{
+    text.as_slice().len() < 1 << 32
 }
 
 impl<'a> Heads<'a> {
@@ -254,7 +261,7 @@ impl<'a> Heads<'a> {
                 let _number = *number;
                 true
             }
-            Literal::Text(text) => text.len() < 1 << 32,
+            Literal::Text(text) => fits_text(text),
             Literal::True | Literal::False => true,
             Literal::Variant(name, variant) => self.is_variant(name, variant),
         }
@@ -302,11 +309,8 @@ impl<'a> Heads<'a> {
             FieldType::Enum(name) => self.enum_named(name).is_some(),
             FieldType::Struct(name) => self.struct_named(name).is_some(),
             FieldType::Optional(inner) => self.type_exists(inner.get()),
-            FieldType::Int
-            | FieldType::Bool
-            | FieldType::Str
-            | FieldType::Raw
-            | FieldType::Ident => true,
+            FieldType::Int | FieldType::Bool | FieldType::Str | FieldType::Raw | FieldType::Ident =>
+                true,
         }
     }
 
