@@ -2,3 +2,4 @@
 pub mod ScopeFacts
 pub mod FormTypes
 pub mod FieldFacts
+pub mod Arms

@@ -84,6 +84,7 @@ fn fit_fields(fields: &[Named], binds: &[Bind<Expr>], types: &[NamedType]) -> bo
 }
 
 /// The names of the binds, and None where two are the same.
+#[tactic(auto, using(crate::proofs::FieldFacts::one_new, crate::proofs::FieldFacts::not_new, crate::proofs::FieldFacts::none_new))]
 fn distinct_names<'a>(
     alloc: Global,
     binds: &'a [Bind<Expr>],
@@ -100,6 +101,7 @@ fn distinct_names<'a>(
 }
 
 /// The same for the fields of a pattern.
+#[tactic(auto, using(crate::proofs::FieldFacts::one_new, crate::proofs::FieldFacts::not_new, crate::proofs::FieldFacts::none_new))]
 fn distinct_fields<'a>(
     alloc: Global,
     fields: &'a [Free<Expr>],
@@ -136,10 +138,13 @@ pub fn in_any_order(
     requires { length types.now ≡ length binds.now }
     ensures { IfOk result (λ is. is ≡ in_any_order fields.now (map (λ b. b.name) binds.now) types.now) }
 {
-    match distinct_names(alloc, binds)? {
-        Some(names) => Ok(fit_fields(fields, binds, types) && are_among(fields, &names)),
-        None => Ok(false),
+    let Some(names) = distinct_names(alloc, binds)? else {
+        return Ok(false);
+    };
+    if !fit_fields(fields, binds, types) {
+        return Ok(false);
     }
+    Ok(are_among(fields, &names))
 }
 
 /// Whether an expression, or a `?` in its place, fits the field of this name.

@@ -2,9 +2,11 @@
 #![tactic(auto)]
 
 mod field_lists;
+mod foreign;
 mod forms;
 mod refusal;
 mod scope;
+mod uses;
 
 use refusal::Refusal;
 use scope::Scope;

@@ -1,5 +1,5 @@
 -- What private calls answer, and what they leave of the scope that they were lent.
-use Rattle.std.specs.Prelude.{◌≡◌, true, false, List, take, length, Option, Some, None, Result, Ok, Err, ⊤}
+use Rattle.std.specs.Prelude.{◌≡◌, ℕ, IfOk, Bool, true, false, List, take, length, Option, Some, None, Result, Ok, Err, ⊤}
 use Rattle.policy_infer.specs.declared.refusal.Refusal.{Refusal}
 use Rattle.policy_infer.specs.declared.refusal.Refusal.TheVariants as refusal
 use Rattle.policy_rules.specs.FieldLists.{are_distinct}
@@ -21,10 +21,22 @@ pub record Infers {A : Type 0} (result : Result A Refusal) (found : Scope → Op
   pub judged : Judges result (found before)
   pub kept : after ≡ before
 
+-- The same of a list with this many elements.
+pub record InfersEach {A : Type 0} (result : Result (List A) Refusal) (found : Scope → Option (List A)) (before after : Scope) (n : ℕ) : Type 0 where
+  pub judged : Judges result (found before)
+  pub kept : after ≡ before
+  pub sized : IfOk result (λ xs. length xs ≡ n)
+
 -- A call answered what a definition gives in a scope, and may have put names behind it.
 pub record InfersWithin {A : Type 0} (result : Result A Refusal) (found : Scope → Option A) (before after : Scope) : Type 0 where
   pub judged : Judges result (found before)
   pub kept : Keeps before after
+
+-- A name was introduced, where it may be, or it may not be. Out of memory says nothing.
+abbrev pub Introduces : Result Unit Refusal → Bool → Scope → Scope → Type 0
+Introduces (Ok x) may added after = (may ≡ true) × (after ≡ added)
+Introduces (Err refusal.IllTyped) may added after = may ≡ false
+Introduces (Err refusal.NoMemory) may added after = ⊤
 
 -- The set has just these names, and there is none where two of them are the same.
 abbrev pub AreNames : List Name → Option (List Name) → Type 0
