@@ -27,6 +27,20 @@ module _ {A : Type 0} (found : Scope → Option A) (before : Scope) where
         kept = q.kept ∙ p.kept;
       }
 
+  -- three parts
+  pub by_three : {B C D : Type 0} {first : Result B Refusal} {second : Result C Refusal} {third : Result D Refusal} {one : Scope → Option B} {two : Scope → Option C} {three : Scope → Option D}
+      {middle later after : Scope} {r : Result A Refusal} (of : Option B → Option C → Option D → Option A) → found before ≡ of (one before) (two before) (three before)
+      → Infers first one before middle → Infers second two middle later → Infers third three later after
+      → ((o : Option B) (p : Option C) (q : Option D) → Judges first o → Judges second p → Judges third q → Judges r (of o p q)) → Infers r found before after
+  by_three {second = second} {third = third} {one = one} {two = two} {three = three} {r = r} of is p q s then' =
+      record {
+        judged =
+            subst (λ o. Judges r o) (sym is)
+            (then' (one before) (two before) (three before) p.judged (subst (λ scope. Judges second (two scope)) p.kept q.judged)
+              (subst (λ scope. Judges third (three scope)) (q.kept ∙ p.kept) s.judged));
+        kept = s.kept ∙ q.kept ∙ p.kept;
+      }
+
 pub each : {A : Type 0} {r : Result (List A) Refusal} {found : Scope → Option (List A)} {before after : Scope} {n : ℕ} → InfersEach r found before after n → Infers r found before after
 each p = record { judged = p.judged; kept = p.kept }
 

@@ -3,3 +3,4 @@ pub mod ScopeFacts
 pub mod FormTypes
 pub mod FieldFacts
 pub mod Arms
+pub mod SoFar

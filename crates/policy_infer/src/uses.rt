@@ -1,12 +1,13 @@
 //! The types of expressions that use what the policy's items define.
 
-ghost use Rattle.std.specs.Prelude.{◌≡◌, length, map, IfOk, List, Option, Some};
+ghost use Rattle.std.specs.Prelude.{◌≡◌, [], ◌∷◌, ◌++◌, length, map, option_map, IfOk, List, Option, Some};
 ghost use Rattle.policy_rules.specs.Expressions.{count_type, is_positive, value_part};
-ghost use Rattle.policy_rules.specs.Scopes.{may_introduce, with_name};
+ghost use Rattle.policy_rules.specs.Scopes.{may_introduce};
 ghost use Rattle.policy_rules.specs.declared.types.NamedType.{NamedType};
 ghost use Rattle.policy_rules.specs.declared.types.NamedType.TheVariants as ty;
 ghost use Rattle.policy_rules.specs.working.Inference.{call_of, field_of, only_if, struct_literal_of, with_pattern};
-ghost use Rattle.policy_infer.specs.working.Answers.{Introduces, Judges, Keeps};
+ghost use Rattle.policy_infer.specs.working.Answers.{Judges, Keeps, Leads};
+ghost use Rattle.policy_infer.specs.working.Types.{introduced};
 
 use crate::field_lists::{arguments_fit, in_any_order, pattern_fits, type_in};
 use crate::forms::{Typed, is_kept_envelope};
@@ -23,6 +24,24 @@ pub type AllTyped = Result<Items<NamedType>, Refusal>;
 
 /// The same, where a `?` may stand in place of an expression.
 pub type GapsTyped = Result<Items<Option<NamedType>>, Refusal>;
+
+/// The types with one more.
+pub fn with_type(types: Items<NamedType>, found: Typed) -> AllTyped
+    ensures { (o : Option NamedType) → Judges found o → Judges result (option_map (λ t. types ++ t ∷ []) o) }
+{
+    let mut types = types;
+    types.push(found?)?;
+    Ok(types)
+}
+
+/// The same, where a `?` may stand in place of others.
+pub fn with_gap_type(types: Items<Option<NamedType>>, found: Typed) -> GapsTyped
+    ensures { (o : Option NamedType) → Judges found o → Judges result (option_map (λ t. types ++ Some t ∷ []) o) }
+{
+    let mut types = types;
+    types.push(Some(found?))?;
+    Ok(types)
+}
 
 /// `.name`, of a struct that has such a field.
 pub fn field_of(alloc: Global, heads: &Heads<'_>, name: &Name, found: Typed) -> Typed
@@ -122,10 +141,10 @@ pub fn pattern_type(
 }
 
 /// The type, where the number is at least 1.
-pub fn counted(n: i64, t: Typed) -> Typed
-    ensures { (o : Option NamedType) → Judges t o → Judges result (only_if (is_positive n) o) }
+pub fn counted(n: &i64, t: Typed) -> Typed
+    ensures { (o : Option NamedType) → Judges t o → Judges result (only_if (is_positive n.now) o) }
 {
-    if n < 1 {
+    if *n < 1 {
         return Err(Refusal::IllTyped);
     }
     t
@@ -140,18 +159,19 @@ fn may_introduce(heads: &Heads<'_>, context: &Context, scope: &Scope, name: &Nam
         && !is_kept_envelope(context, name)
 }
 
-/// Introduces a name, where it may be introduced.
+/// Introduces a name for a value of the type that was found, where it may be introduced.
 pub fn introduce(
     alloc: Global,
     heads: &Heads<'_>,
     context: &Context,
     scope: &mut Scope,
     name: &Name,
-    t: NamedType,
+    found: Typed,
 ) -> Result<(), Refusal>
-    ensures judged { Introduces result (may_introduce heads.now context.now scope.old name.now) (with_name scope.old name.now t) scope.new }
+    ensures judged { (o : Option NamedType) → Judges found o → Leads result (introduced heads.now context.now name.now scope.old o) scope.new }
     ensures kept { Keeps scope.old scope.new }
 {
+    let t = found?;
     if !may_introduce(heads, context, scope, name) {
         return Err(Refusal::IllTyped);
     }

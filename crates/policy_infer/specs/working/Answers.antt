@@ -1,5 +1,5 @@
 -- What private calls answer, and what they leave of the scope that they were lent.
-use Rattle.std.specs.Prelude.{◌≡◌, ℕ, IfOk, Bool, true, false, List, take, length, Option, Some, None, Result, Ok, Err, ⊤}
+use Rattle.std.specs.Prelude.{◌≡◌, ℕ, IfOk, true, false, List, take, length, Option, Some, None, Result, Ok, Err, ⊤}
 use Rattle.policy_infer.specs.declared.refusal.Refusal.{Refusal}
 use Rattle.policy_infer.specs.declared.refusal.Refusal.TheVariants as refusal
 use Rattle.policy_rules.specs.FieldLists.{are_distinct}
@@ -32,11 +32,11 @@ pub record InfersWithin {A : Type 0} (result : Result A Refusal) (found : Scope 
   pub judged : Judges result (found before)
   pub kept : Keeps before after
 
--- A name was introduced, where it may be, or it may not be. Out of memory says nothing.
-abbrev pub Introduces : Result Unit Refusal → Bool → Scope → Scope → Type 0
-Introduces (Ok x) may added after = (may ≡ true) × (after ≡ added)
-Introduces (Err refusal.IllTyped) may added after = may ≡ false
-Introduces (Err refusal.NoMemory) may added after = ⊤
+-- A call led on to the scope that a definition gives, or it gives none. Out of memory says nothing.
+abbrev pub Leads : Result Unit Refusal → Option Scope → Scope → Type 0
+Leads (Ok x) found after = found ≡ Some after
+Leads (Err refusal.IllTyped) found after = found ≡ None
+Leads (Err refusal.NoMemory) found after = ⊤
 
 -- The set has just these names, and there is none where two of them are the same.
 abbrev pub AreNames : List Name → Option (List Name) → Type 0

@@ -12,6 +12,7 @@ use Rattle.policy_ast.specs.declared.item.Item.{Item}
 use Rattle.policy_ast.specs.declared.pattern.Free.{Free}
 use Rattle.policy_ast.specs.declared.pattern.Pattern.{Pattern}
 use Rattle.policy_rules.specs.Expressions.{value_part}
+use Rattle.policy_rules.specs.Names.{Name}
 use Rattle.policy_rules.specs.Scopes.{Scope, may_introduce, with_name}
 use Rattle.policy_rules.specs.declared.context.Context.{Context}
 use Rattle.policy_rules.specs.declared.types.NamedType.{NamedType}
@@ -59,6 +60,10 @@ module _ (items : List Item) (context : Context) where
   abbrev pub pattern_type : Pattern Expr → NamedType → Scope → Option NamedType
   pattern_type p t scope =
       with_pattern items p.fact (map (λ f. f.name) p.keys) (gap_types_of p.keys scope) (map (λ f. f.name) (value_part p.values)) (gap_types_of (value_part p.values) scope) t
+
+  -- the scope with one more name, for a value of the type that was found
+  abbrev pub introduced : Name → Scope → Option NamedType → Option Scope
+  introduced name scope found = found >>= λ t. only_if (may_introduce items context scope name) (Some (with_name scope name t))
 
   -- the scope behind `let`s
   abbrev pub lets_behind : List (Let Expr) → Scope → Option Scope
