@@ -53,16 +53,16 @@ keys_lack (k ∷ keys) (f ∷ fields) (gap ∷ gaps) lt =
 abbrev pub are_new : List Name → List Name → Bool
 are_new set names = list_all (λ name. not (is_among name set)) names && are_distinct names
 
-parted : (a b c d : Bool) → (not (a || b) && (c && not d)) ≡ ((not a && c) && not (b || d))
+pub parted : (a b c d : Bool) → (not (a || b) && (c && not d)) ≡ ((not a && c) && not (b || d))
 parted true b c d = refl
 parted false true c d = sym (and_false c)
 parted false false c d = refl
 
-grouped : (a b c : Bool) → ((a && b) && c) ≡ (a && (b && c))
+pub grouped : (a b c : Bool) → ((a && b) && c) ≡ (a && (b && c))
 grouped true b c = refl
 grouped false b c = refl
 
-same_both : (a b : Name) → bytes_eq a b ≡ bytes_eq b a
+pub same_both : (a b : Name) → bytes_eq a b ≡ bytes_eq b a
 same_both a b = by (bytes_eq a b) (bytes_eq b a) refl refl
   where
     by : (p q : Bool) → bytes_eq a b ≡ p → bytes_eq b a ≡ q → p ≡ q
@@ -103,7 +103,7 @@ joined_left : (a b c : Bool) → ((a || b) || c) ≡ (a || (b || c))
 joined_left true b c = refl
 joined_left false b c = refl
 
-unset : (is_new is : Bool) → is_new ≡ not is → is_new ≡ true → is ≡ false
+pub unset : (is_new is : Bool) → is_new ≡ not is → is_new ≡ true → is ≡ false
 unset is_new true one other = sym other ∙ one
 unset is_new false one other = refl
 

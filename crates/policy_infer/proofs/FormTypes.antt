@@ -28,7 +28,7 @@ use Rattle.policy_rules.specs.Scopes.{Scope, may_introduce, name_type, with_name
 use Rattle.policy_rules.specs.declared.context.Context.{Context}
 use Rattle.policy_rules.specs.declared.types.NamedType.{NamedType}
 use Rattle.policy_rules.specs.declared.types.NamedType.TheVariants as ty
-use Rattle.policy_rules.specs.working.Inference.{◌>>=◌, Found, all_types, block_type, calculation_of, call_of, choice_of, compare_of, else_type, field_of, found, found_layer, gap_types, introduced, is_foreign_call, logic_of, only_if, pattern_of, presence_of, struct_literal_of, unary_of, with_pattern}
+use Rattle.policy_rules.specs.working.Inference.{◌>>=◌, Found, all_types, block_type, calculation_of, call_of, choice_of, compare_of, else_type, field_of, found, found_free, found_gap, found_layer, found_pattern, found_values, gap_types, introduced, is_foreign_call, logic_of, only_if, pattern_of, presence_of, struct_literal_of, types_within, unary_of, with_pattern}
 use Rattle.policy_infer.specs.working.Types.{are_envelopes, bind_types, block_of, gap_type_of, gap_types_of, is_envelope, is_envelope_layer, lets_behind, otherwise_of, pattern_type, type_of, types_of}
 
 module _ (items : List Item) (context : Context) where
@@ -37,7 +37,7 @@ module _ (items : List Item) (context : Context) where
 
   -- ---- lists
 
-  all_same : (es : List Expr) (scope : Scope) → all_types (map find es) scope ≡ types_of items context es scope
+  pub all_same : (es : List Expr) (scope : Scope) → all_types (map find es) scope ≡ types_of items context es scope
   unfolding type_of
   all_same [] scope = refl
   all_same (e ∷ es) scope = ap (λ more. type_of items context e scope >>= λ t. option_map (λ types. t ∷ types) more) (all_same es scope)
@@ -115,6 +115,31 @@ module _ (items : List Item) (context : Context) where
   envelopes_same : (es : List Expr) → map (λ f. f.is_envelope) (map find es) ≡ are_envelopes es
   envelopes_same [] = refl
   envelopes_same (e ∷ es) = ap (λ b. b ∷ map (λ f. f.is_envelope) (map find es)) (envelope_same e) ∙ ap (λ more. is_envelope e ∷ more) (envelopes_same es)
+
+  -- ---- what statements ask of lists and patterns
+
+  pub list_same : (es : List Expr) (scope : Scope) → types_within items context es scope ≡ types_of items context es scope
+  list_same es scope = all_same es scope
+
+  pub bind_list_same : (binds : List (Bind Expr)) (scope : Scope) → types_within items context (map (λ b. b.value) binds) scope ≡ bind_types items context binds scope
+  bind_list_same binds scope = ap (λ found. all_types found scope) (sym (bind_values find binds)) ∙ binds_same binds scope
+
+  gap_found : (o : Option Expr) → found_gap items context o ≡ map_gap find o
+  gap_found None = refl
+  gap_found (Some e) = refl
+
+  frees_found : (frees : List (Free Expr)) → map (found_free items context) frees ≡ map (map_free find) frees
+  frees_found [] = refl
+  frees_found (f ∷ frees) = ap (λ o. record { name = f.name; value = o } ∷ map (found_free items context) frees) (gap_found f.value) ∙ ap (λ more. map_free find f ∷ more) (frees_found frees)
+
+  values_found : (o : Option (List (Free Expr))) → found_values items context o ≡ map_values find o
+  values_found None = refl
+  values_found (Some frees) = ap Some (frees_found frees)
+
+  pub pattern_found : (p : Pattern Expr) (scope : Scope) (t : NamedType) → pattern_of items context (found_pattern items context p) scope t ≡ pattern_type items context p t scope
+  pattern_found p scope t =
+      ap (λ keys. pattern_of items context (record { fact = p.fact; keys = keys; values = found_values items context p.values }) scope t) (frees_found p.keys)
+      ∙ ap (λ values. pattern_of items context (record { fact = p.fact; keys = map (map_free find) p.keys; values = values }) scope t) (values_found p.values) ∙ pattern_same p scope t
 
   -- ---- forms
 

@@ -2,3 +2,6 @@
 pub mod Answers
 pub mod Types
 pub mod ScopeViews
+pub mod Behind
+pub mod Listed
+pub mod Returns

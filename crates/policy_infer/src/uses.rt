@@ -96,6 +96,13 @@ pub fn struct_literal_of(
     }
 }
 
+/// The struct type of a fact's rows.
+pub fn struct_type(alloc: Global, fact: &Name) -> Typed
+    ensures { Judges result (Some (ty.Struct fact.now)) }
+{
+    Ok(NamedType::Struct(fact.copy(alloc)?))
+}
+
 /// The type of a query.
 pub fn query_type(alloc: Global, fact: &Name) -> Typed
     ensures { Judges result (Some (ty.Optional (ty.Struct fact.now))) }

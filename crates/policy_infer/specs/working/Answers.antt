@@ -1,5 +1,5 @@
 -- What private calls answer, and what they leave of the scope that they were lent.
-use Rattle.std.specs.Prelude.{◌≡◌, ℕ, IfOk, true, false, List, take, length, Option, Some, None, Result, Ok, Err, ⊤}
+use Rattle.std.specs.Prelude.{◌≡◌, ℕ, Bool, IfOk, true, false, List, take, length, Option, Some, None, Result, Ok, Err, ⊤}
 use Rattle.policy_infer.specs.declared.refusal.Refusal.{Refusal}
 use Rattle.policy_infer.specs.declared.refusal.Refusal.TheVariants as refusal
 use Rattle.policy_rules.specs.FieldLists.{are_distinct}
@@ -37,6 +37,27 @@ abbrev pub Leads : Result Unit Refusal → Option Scope → Scope → Type 0
 Leads (Ok x) found after = found ≡ Some after
 Leads (Err refusal.IllTyped) found after = found ≡ None
 Leads (Err refusal.NoMemory) found after = ⊤
+
+-- A call found that a test is passed, or that it isn't. Out of memory says nothing.
+abbrev pub Allows : Result Unit Refusal → Bool → Type 0
+Allows (Ok x) test = test ≡ true
+Allows (Err refusal.IllTyped) test = test ≡ false
+Allows (Err refusal.NoMemory) test = ⊤
+
+-- A call tested something in a scope, and left the scope as it was.
+pub record Tests (result : Result Unit Refusal) (test : Scope → Bool) (before after : Scope) : Type 0 where
+  pub judged : Allows result (test before)
+  pub kept : after ≡ before
+
+-- A call tested something in a scope, and may have put names behind it.
+pub record TestsWithin (result : Result Unit Refusal) (test : Scope → Bool) (before after : Scope) : Type 0 where
+  pub judged : Allows result (test before)
+  pub kept : Keeps before after
+
+-- A call led on from a scope, which stays the front of what it left.
+pub record LeadsOn (result : Result Unit Refusal) (behind : Scope → Option Scope) (before after : Scope) : Type 0 where
+  pub judged : Leads result (behind before) after
+  pub kept : Keeps before after
 
 -- The set has just these names, and there is none where two of them are the same.
 abbrev pub AreNames : List Name → Option (List Name) → Type 0
