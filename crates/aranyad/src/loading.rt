@@ -37,7 +37,9 @@ fn typed_policy(alloc: Global, digest: Id, policy: Policy) -> Result<Loaded, NoM
 {
     match check(alloc, policy) {
         Ok(policy) => Ok(Loaded::Whole(digest, policy)),
-        Err(TypeFault::IllTyped { item_line }) => Ok(Loaded::Refused(policy_line(alloc, "type", item_line)?)),
+        Err(TypeFault::IllTyped { item_line }) => Ok(Loaded::Refused(policy_line(
+            alloc, "type", item_line,
+        )?)),
         Err(TypeFault::NoMemory) => Err(NoMemory),
     }
 }
@@ -49,7 +51,9 @@ fn parsed_policy(alloc: Global, digest: Id, tokens: &[Token]) -> Result<Loaded, 
 {
     match parse(alloc, tokens) {
         Ok(policy) => typed_policy(alloc, digest, policy),
-        Err(SyntaxFault::Syntax { item_line }) => Ok(Loaded::Refused(policy_line(alloc, "syntax", item_line)?)),
+        Err(SyntaxFault::Syntax { item_line }) => Ok(Loaded::Refused(policy_line(
+            alloc, "syntax", item_line,
+        )?)),
         Err(SyntaxFault::NoMemory) => Err(NoMemory),
     }
 }

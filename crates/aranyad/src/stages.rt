@@ -90,7 +90,15 @@ fn run_loaded<F: Files, E: Envelope, K: Sink>(
     match policy {
         Loaded::TooLarge => refuse(out, Ending::TooLarge, b"too large: policy\n"),
         Loaded::Refused(line) => refuse(out, Ending::PolicyRefused, line.as_slice()),
-        Loaded::Whole(digest, policy) => run_items(alloc, digest, policy.policy().items(), script, files, env, out),
+        Loaded::Whole(digest, policy) => run_items(
+            alloc,
+            digest,
+            policy.policy().items(),
+            script,
+            files,
+            env,
+            out,
+        ),
     }
 }
 

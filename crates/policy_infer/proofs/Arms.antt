@@ -37,7 +37,7 @@ module _ {A : Type 0} (found : Scope → Option A) (before : Scope) where
         judged =
             subst (λ o. Judges r o) (sym is)
             (then' (one before) (two before) (three before) p.judged (subst (λ scope. Judges second (two scope)) p.kept q.judged)
-              (subst (λ scope. Judges third (three scope)) (q.kept ∙ p.kept) s.judged));
+            (subst (λ scope. Judges third (three scope)) (q.kept ∙ p.kept) s.judged));
         kept = s.kept ∙ q.kept ∙ p.kept;
       }
 

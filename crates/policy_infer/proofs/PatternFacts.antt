@@ -104,9 +104,10 @@ not_new set p values is = rw is refl
 pub values_turn : (set added all left : List PatternLiteral) (p : PatternLiteral) (rest : List PatternLiteral) (is_new : Bool) → left ≡ p ∷ rest
     → is_new ≡ not (list_any (same_pattern p) set) → is_new ≡ true → (is_new ≡ true → added ≡ set ++ p ∷ [])
     → (are_new set left ≡ are_distinct_patterns all) × (set ++ left ≡ all) → (are_new added rest ≡ are_distinct_patterns all) × (added ++ rest ≡ all)
-values_turn set added all left p rest is_new begins says is adds so_far =
-    (ap (λ set. are_new set rest) (adds is) ∙ one_new set p rest (unset is_new (list_any (same_pattern p) set) says is) ∙ ap (are_new set) (sym begins) ∙ so_far.0,
-    ap (λ set. set ++ rest) (adds is) ∙ append_assoc set (p ∷ []) rest ∙ ap (λ left. set ++ left) (sym begins) ∙ so_far.1)
+values_turn set added all left p rest is_new begins says is adds so_far = (
+  ap (λ set. are_new set rest) (adds is) ∙ one_new set p rest (unset is_new (list_any (same_pattern p) set) says is) ∙ ap (are_new set) (sym begins) ∙ so_far.0,
+  ap (λ set. set ++ rest) (adds is) ∙ append_assoc set (p ∷ []) rest ∙ ap (λ left. set ++ left) (sym begins) ∙ so_far.1,
+)
 
 pub value_stops : (set all left : List PatternLiteral) (p : PatternLiteral) (rest : List PatternLiteral) (is_new : Bool) → left ≡ p ∷ rest
     → is_new ≡ not (list_any (same_pattern p) set) → is_new ≡ false → (are_new set left ≡ are_distinct_patterns all) × (set ++ left ≡ all) → are_distinct_patterns all ≡ false
@@ -129,6 +130,7 @@ last_turn p (q ∷ rest) n is =
   where
     above : (n : ℕ) → nat_lt 0 (suc n) ≡ true
     above n = grind (arith, nat_tests)
+
     by : (b : Bool) → (not (b && true) && any_is_last (q ∷ rest)) ≡ (not b && any_is_last (q ∷ rest))
     by true = refl
     by false = refl

@@ -159,7 +159,7 @@ module _ (items : List Item) (context : Context) where
       → Led all before after (i + 1)
   led_on {all} {before} {now} {middle} {after} {i} p l lt is q leads keeps =
       let gives : introduced items context l.name now (type_of items context l.value now) ≡ Some after =
-          subst (λ scope. introduced items context l.name scope (type_of items context l.value now) ≡ Some after) q.kept (leads (type_of items context l.value now) q.judged) in
+      subst (λ scope. introduced items context l.name scope (type_of items context l.value now) ≡ Some after) q.kept (leads (type_of items context l.value now) q.judged) in
       record {
         leads = sym (one_led p l lt is ∙ ap (λ o. o >>= λ after. lets_behind items context (drop (i + 1) all) after) gives);
         keeps = keeps_both before middle after (subst (Keeps before) (sym q.kept) p.keeps) keeps;
@@ -179,7 +179,7 @@ module _ (items : List Item) (context : Context) where
           ap (λ o. o >>= λ inner. type_of items context e inner)
           (one_led p l lt is
           ∙ ap (λ o. o >>= λ after. lets_behind items context (drop (i + 1) all) after)
-            (subst (λ scope. introduced items context l.name scope (type_of items context l.value now) ≡ None) q.kept isnt))
+          (subst (λ scope. introduced items context l.name scope (type_of items context l.value now) ≡ None) q.kept isnt))
       by refusal.NoMemory isnt = tt
 
   -- all names are introduced, and the block's value is left

@@ -133,9 +133,9 @@ module _ (items : List Item) (context : Context) (scope : Scope) where
   map_is p name body =
       ap (λ j. j.behind scope) (fold-stmt-Map (judged_layer items context) p name body)
       ∙ ap (λ o. only_if (is_action_block context.block && (is_some o && (may_introduce items context scope name && block_is (map (judged items context) body) (with_name scope name (ty.Struct p.fact))))) (Some scope))
-        (pattern_found items context p scope ty.Bool)
+      (pattern_found items context p scope ty.Bool)
       ∙ ap (λ b. only_if (is_action_block context.block && (is_some (pattern_type items context p ty.Bool scope) && (may_introduce items context scope name && b))) (Some scope))
-        (stmts_same items context body (with_name scope name (ty.Struct p.fact)))
+      (stmts_same items context body (with_name scope name (ty.Struct p.fact)))
       ∙ by (is_action_block context.block) (is_some (pattern_type items context p ty.Bool scope)) (may_introduce items context scope name)
     where
       by : (a b c : Bool) → only_if (a && (b && (c && are_stmts items context body (with_name scope name (ty.Struct p.fact))))) (Some scope)

@@ -71,7 +71,7 @@ branches_test found test other before first second third fourth last head then' 
     let q' : Tests otherwise other third last = within_test q n (len ∙ ap (λ scope. length scope) (sym p'.kept)) cut in
     by_test found before last r (a && (test before && other before)) gives
     (all a (test before && other before) is
-      (both (test before) (other before) (subst (λ scope. Allows then' (test scope)) kept p'.judged) (subst (λ scope. Allows otherwise (other scope)) (p'.kept ∙ kept) q'.judged)))
+    (both (test before) (other before) (subst (λ scope. Allows then' (test scope)) kept p'.judged) (subst (λ scope. Allows otherwise (other scope)) (p'.kept ∙ kept) q'.judged)))
     (q'.kept ∙ p'.kept ∙ kept)
 
 failed : (r : Refusal) (o p : Option Scope) (after : Scope) → (o ≡ None → p ≡ None) → Leads (Err r) o after → Leads (Err r) p after
@@ -105,6 +105,7 @@ precede_is s (m ∷ more) n is =
   where
     above : (n : ℕ) → nat_lt 0 (suc n) ≡ true
     above n = grind (arith, nat_tests)
+
     by : (b : Bool) → not (b && true) ≡ not b
     by true = refl
     by false = refl

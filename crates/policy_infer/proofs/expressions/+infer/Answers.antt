@@ -123,8 +123,8 @@ infer-returns-in-Count t c =
     (ap (λ (e : Expr). type_of c.args.heads.now c.args.context.now e c.args.scope.now) c.in-Count.is ∙ count_is c.args.heads.now c.args.context.now c.args.scope.now c.in-Count.op c.in-Count.n c.in-Count.p)
     (each c.pattern_keys-keys-in-Count.ensures) (each c.pattern_values-values-in-Count.ensures)
     (λ ks vs keys values.
-      c.counted.ensures (with_pattern c.args.heads.now c.in-Count.p.fact (map (λ f. f.name) c.in-Count.p.keys) ks (map (λ f. f.name) (value_part c.in-Count.p.values)) vs (count_type c.in-Count.op))
-      (c.pattern_type-in-Count.ensures ks vs (count_type c.in-Count.op) keys values (ap Some (sym c.count_type.ensures))))
+    c.counted.ensures (with_pattern c.args.heads.now c.in-Count.p.fact (map (λ f. f.name) c.in-Count.p.keys) ks (map (λ f. f.name) (value_part c.in-Count.p.values)) vs (count_type c.in-Count.op))
+    (c.pattern_type-in-Count.ensures ks vs (count_type c.in-Count.op) keys values (ap Some (sym c.count_type.ensures))))
 
 pub infer-returns-in-If : goal.infer-returns-in-If
 infer-returns-in-If t c =
@@ -142,7 +142,7 @@ infer_all-returns-in_err-types t c =
     let p = err_from_is_err_and c.from_residual.result c.from_residual.ensures.1 in
     rw (p.1, p.2)
     (stops (types_of c.args.heads.now c.args.context.now) (type_of c.args.heads.now c.args.context.now) (λ x xs scope. refl) (λ scope. refl) c.loop-e.invariant c.e-item.result (λ t. t) c.in_err-types.field-0.0 (length c.args.es.now) c.loop-e-test.true c.e-item.is
-      (λ scope. itself (type_of c.args.heads.now c.args.context.now c.e-item.result scope)) c.infer.ensures c.in_err-types.ensures)
+    (λ scope. itself (type_of c.args.heads.now c.args.context.now c.e-item.result scope)) c.infer.ensures c.in_err-types.ensures)
 
 pub infer_all-loop-e-preserved : goal.infer_all-loop-e-preserved
 infer_all-loop-e-preserved t c =
@@ -162,7 +162,7 @@ infer_binds-returns-in_err-types t c =
     let p = err_from_is_err_and c.from_residual.result c.from_residual.ensures.1 in
     rw (p.1, p.2)
     (stops (bind_types c.args.heads.now c.args.context.now) (λ b. type_of c.args.heads.now c.args.context.now b.value) (λ x xs scope. refl) (λ scope. refl) c.loop-bind.invariant c.bind-item.result (λ t. t) c.in_err-types.field-0.0 (length c.args.binds.now) c.loop-bind-test.true c.bind-item.is
-      (λ scope. itself (type_of c.args.heads.now c.args.context.now c.bind-item.result.value scope)) c.infer.ensures c.in_err-types.ensures)
+    (λ scope. itself (type_of c.args.heads.now c.args.context.now c.bind-item.result.value scope)) c.infer.ensures c.in_err-types.ensures)
 
 pub infer_binds-loop-bind-preserved : goal.infer_binds-loop-bind-preserved
 infer_binds-loop-bind-preserved t c =
@@ -193,7 +193,7 @@ pattern_keys-returns-in_err-types t c =
     let p = err_from_is_err_and c.from_residual-in_err-types.result c.from_residual-in_err-types.ensures.1 in
     rw (p.1, p.2, ← c.as_slice-field-items.ensures)
     (stops (gap_types_of c.args.heads.now c.args.context.now) (λ f. gap_type_of c.args.heads.now c.args.context.now f.value) (λ x xs scope. refl) (λ scope. refl) c.loop-field.invariant c.field-item.result Some c.in_err-types.field-0.0 (length c.as_slice-field-items.result.now) c.loop-field-test.true c.field-item.is
-      (λ scope. ap (λ v. gap_type_of c.args.heads.now c.args.context.now v scope) c.in-Some.is) c.infer.ensures c.in_err-types.ensures)
+    (λ scope. ap (λ v. gap_type_of c.args.heads.now c.args.context.now v scope) c.in-Some.is) c.infer.ensures c.in_err-types.ensures)
 
 pub pattern_keys-loop-field-preserved : goal.pattern_keys-loop-field-preserved
 pattern_keys-loop-field-preserved t c =
@@ -224,7 +224,7 @@ pattern_values-returns-in_err-types t c =
     let p = err_from_is_err_and c.from_residual-in_err-types.result c.from_residual-in_err-types.ensures.1 in
     rw (p.1, p.2, c.in-Some.is, ← c.as_slice-field-items.ensures)
     (stops (gap_types_of c.args.heads.now c.args.context.now) (λ f. gap_type_of c.args.heads.now c.args.context.now f.value) (λ x xs scope. refl) (λ scope. refl) c.loop-field.invariant c.field-item.result Some c.in_err-types.field-0.0 (length c.as_slice-field-items.result.now) c.loop-field-test.true c.field-item.is
-      (λ scope. ap (λ v. gap_type_of c.args.heads.now c.args.context.now v scope) c.in-Some-value.is) c.infer.ensures c.in_err-types.ensures)
+    (λ scope. ap (λ v. gap_type_of c.args.heads.now c.args.context.now v scope) c.in-Some-value.is) c.infer.ensures c.in_err-types.ensures)
 
 pub pattern_values-loop-field-preserved : goal.pattern_values-loop-field-preserved
 pattern_values-loop-field-preserved t c =
@@ -244,7 +244,7 @@ infer_then-returns-in_err-introduce t c =
     let p = err_from_is_err_and c.from_residual.result c.from_residual.ensures.1 in
     rw (p.1, p.2, ← c.as_slice-one-items.ensures)
     (let_stops c.args.heads.now c.args.context.now c.loop-one.invariant c.one-item.result c.args.x.now.then.value c.in_err-introduce.field-0.0 c.loop-one-test.true c.one-item.is c.infer-found.ensures
-      c.in_err-introduce.ensures.judged c.in_err-introduce.ensures.kept)
+    c.in_err-introduce.ensures.judged c.in_err-introduce.ensures.kept)
 
 pub infer_then-loop-one-preserved : goal.infer_then-loop-one-preserved
 infer_then-loop-one-preserved t c =
@@ -263,7 +263,7 @@ infer_otherwise-returns-in_err-introduce t c =
     let p = err_from_is_err_and c.from_residual.result c.from_residual.ensures.1 in
     rw (p.1, p.2, c.in-Block.is, ← c.as_slice-one-items.ensures)
     (let_stops c.args.heads.now c.args.context.now c.loop-one.invariant c.one-item.result c.in-Block.b.value c.in_err-introduce.field-0.0 c.loop-one-test.true c.one-item.is c.infer-found.ensures
-      c.in_err-introduce.ensures.judged c.in_err-introduce.ensures.kept)
+    c.in_err-introduce.ensures.judged c.in_err-introduce.ensures.kept)
 
 pub infer_otherwise-loop-one-preserved : goal.infer_otherwise-loop-one-preserved
 infer_otherwise-loop-one-preserved t c =
