@@ -1,4 +1,4 @@
-ghost use Rattle.std.specs.Prelude.{◌≡◌, ◌≢◌, ◌⊎◌, None, Some, Ok, Err, IfSome, vec_len};
+ghost use Rattle.std.specs.Prelude.{◌≡◌, ◌≢◌, ◌⊎◌, ℕ, List, None, Some, Ok, Err, IfSome, vec_len};
 ghost use Rattle.std.specs.Io.KnownBytes.{append_known};
 ghost use Rattle.outside.specs.Causes.{Rose};
 ghost use Rattle.aranyad.specs.Ending.{HaltsWithCause, counts};
@@ -8,6 +8,7 @@ ghost use Rattle.aranyad.specs.Outcome.{Follows, Outcome, Runs, RunsMode, RunsTo
 ghost use Rattle.aranyad.specs.Written.{WritesFront};
 ghost use Rattle.aranyad.specs.declared.ending.Ending.TheVariants as ending;
 ghost use Rattle.aranyad.specs.declared.ending.Halt.TheVariants as halt;
+ghost use Rattle.aranyad.specs.declared.mode.Mode.TheVariants as form;
 
 use crate::choose::{ChooseFault, choose};
 use crate::ending::{Ending, Halt};
@@ -37,6 +38,7 @@ fn run_mode<F: Files, E: Envelope, K: Sink>(
     ensures no_usage { result ≢ Ok ending.Usage }
     ensures name { result ≡ Err halt.Read → ReadFails (F.holds files.old) (Some mode) (F.last files.new) }
     ensures nothing { result ≡ Err halt.Read → K.written out.new ≡ K.written out.old }
+    ensures check_seals { (policy : List ℕ) → mode ≡ form.Check policy → result ≢ Err halt.Seal }
 {
     match mode {
         Mode::Check(policy) => check_file(alloc, policy, files, out),
@@ -61,6 +63,7 @@ fn run_words<F: Files, E: Envelope, K: Sink>(
     ensures nothing { result ≡ Err halt.Read → K.written out.new ≡ K.written out.old }
     ensures line { result ≡ Ok ending.Usage → K.written out.new ≡ append_known (K.written out.old) usage_line }
     ensures front { mode_of words.now ≡ None → WritesFront usage_line (K.written out.old) (K.written out.new) }
+    ensures check_seals { (policy : List ℕ) → mode_of words.now ≡ Some (form.Check policy) → result ≢ Err halt.Seal }
 {
     match choose(alloc, words) {
         Ok(mode) => run_mode(alloc, mode, files, env, out),
@@ -98,6 +101,8 @@ pub fn run_command<F: Files, D: Disk, E: Envelope, K: Sink>(
     ensures nothing { result ≡ Status.ReadFault → K.written out.new ≡ K.written out.old }
     ensures write { result ≡ Status.WriteFault → Rose (K.faults out.old) (K.faults out.new) }
     ensures seal { result ≡ Status.SealFault → Rose (E.faults env.old) (E.faults env.new) }
+    // Where a policy is only judged, no seal is asked for.
+    ensures check_seals { (policy : List ℕ) → mode_of words.now ≡ Some (form.Check policy) → result ≢ Status.SealFault }
     ensures no_disk { result ≢ Status.DiskFault }
     ensures no_journal { result ≢ Status.JournalRefused }
 {
