@@ -1,2 +1,3 @@
 -- What the code is shown by.
 pub mod Kinds
+pub mod Returns
