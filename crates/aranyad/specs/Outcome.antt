@@ -1,5 +1,5 @@
 -- What a run of the program prints and how it ends: a function of the words, the files and the script's lines, once it is
--- said which items the policy's tokens spell.
+-- said what the policy's file is taken for.
 use Rattle.std.specs.Prelude.{◌≡◌, ℕ, nat_lt, if◌then◌else◌, List, [], ◌∷◌, length, codes, Option, Some, None, Result, Ok, Err, MatchResult, IfSome, ◌++◌}
 use Rattle.std.specs.List.{concat}
 use Rattle.std.specs.Option.{option_map}
