@@ -12,8 +12,8 @@ ghost use Rattle.policy_rules.specs.working.Judging.{body_is, finish_stmts_are};
 use base_bytes::NoMemory;
 use policy_ast::{Field, FieldType, FinishStmt, Stmt};
 use policy_heads::{Heads, written_type};
-use policy_infer::{body_is, finish_stmts_are};
-use policy_items::{are_parameters, ends_in_return};
+use policy_infer::{body_is, ends_in_return, finish_stmts_are};
+use policy_items::are_parameters;
 use policy_rules::{Block, Context, Named};
 use std::alloc::Global;
 

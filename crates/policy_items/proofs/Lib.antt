@@ -1,3 +1,2 @@
 mod Distinct
 mod OneSection
-mod Ending

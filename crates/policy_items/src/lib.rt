@@ -4,11 +4,9 @@
 mod attributes;
 mod fields;
 mod names;
-mod returns;
 mod sections;
 
 pub use attributes::are_attributes;
 pub use fields::{are_effect_fields, are_fact_fields, are_fields, are_parameters};
 pub use names::{are_variants, is_free_name};
-pub use returns::ends_in_return;
 pub use sections::{attributes_of, has_its_sections};
