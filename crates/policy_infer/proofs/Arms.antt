@@ -1,10 +1,7 @@
 -- What is inferred of an expression, by what was inferred of its parts one after the other.
-use Rattle.std.proofs.Common.{◌≡◌, ℕ, List, length, take, Option, Result, refl, sym, ap, subst, ◌∙◌, IfOk}
-use Rattle.policy_ast.specs.declared.expr.Expr.{Expr}
-use Rattle.policy_ast.specs.declared.item.Item.{Item}
-use Rattle.policy_infer.proofs.ScopeFacts.{keeps_same}
+use Rattle.std.proofs.Common.{◌≡◌, ℕ, List, length, take, Option, Result, refl, sym, ap, subst, ◌∙◌}
 use Rattle.policy_infer.specs.declared.refusal.Refusal.{Refusal}
-use Rattle.policy_infer.specs.working.Answers.{Infers, InfersEach, InfersWithin, Judges, Keeps}
+use Rattle.policy_infer.specs.working.Answers.{Infers, InfersEach, InfersWithin, Judges}
 use Rattle.policy_rules.specs.Scopes.{Scope}
 
 module _ {A : Type 0} (found : Scope → Option A) (before : Scope) where
@@ -37,7 +34,7 @@ module _ {A : Type 0} (found : Scope → Option A) (before : Scope) where
         judged =
             subst (λ o. Judges r o) (sym is)
             (then' (one before) (two before) (three before) p.judged (subst (λ scope. Judges second (two scope)) p.kept q.judged)
-              (subst (λ scope. Judges third (three scope)) (q.kept ∙ p.kept) s.judged));
+            (subst (λ scope. Judges third (three scope)) (q.kept ∙ p.kept) s.judged));
         kept = s.kept ∙ q.kept ∙ p.kept;
       }
 

@@ -112,9 +112,10 @@ pub names_turn : (set added all left : List Name) (name : Name) (rest : List Nam
     → ((q : Name) → is_among q added ≡ (is_among q set || bytes_eq q name))
     → (are_new set left ≡ are_distinct all) × ((q : Name) → (is_among q set || is_among q left) ≡ is_among q all)
     → (are_new added rest ≡ are_distinct all) × ((q : Name) → (is_among q added || is_among q rest) ≡ is_among q all)
-names_turn set added all left name rest is_new begins says is adds so_far =
-    (one_new set added name rest (unset is_new (is_among name set) says is) adds ∙ ap (are_new set) (sym begins) ∙ so_far.0,
-    λ q. ap (λ b. b || is_among q rest) (adds q) ∙ joined_left (is_among q set) (bytes_eq q name) (is_among q rest) ∙ ap (λ names. is_among q set || is_among q names) (sym begins) ∙ so_far.1 q)
+names_turn set added all left name rest is_new begins says is adds so_far = (
+  one_new set added name rest (unset is_new (is_among name set) says is) adds ∙ ap (are_new set) (sym begins) ∙ so_far.0,
+  λ q. ap (λ b. b || is_among q rest) (adds q) ∙ joined_left (is_among q set) (bytes_eq q name) (is_among q rest) ∙ ap (λ names. is_among q set || is_among q names) (sym begins) ∙ so_far.1 q,
+)
 
 -- what a set says of names is what their list says
 pub all_among : (set names fields : List Name) → ((q : Name) → is_among q set ≡ is_among q names) → list_all (λ field. is_among field set) fields ≡ list_all (λ field. is_among field names) fields

@@ -1,5 +1,5 @@
 -- The values that arms list, gone through one by one.
-use Rattle.std.proofs.Common.{◌≡◌, ℤ, ℕ, ◌+◌, ◌<◌, Bool, true, false, not, ◌&&◌, ◌||◌, nat_lt, suc, List, [], ◌∷◌, ◌++◌, length, drop, map, refl, sym, ap, ◌∙◌, arith}
+use Rattle.std.proofs.Common.{◌≡◌, ℤ, ℕ, Bool, true, false, not, ◌&&◌, ◌||◌, nat_lt, suc, List, [], ◌∷◌, ◌++◌, length, refl, sym, ap, ◌∙◌, arith}
 use Rattle.std.specs.List.{list_all, list_any}
 use Rattle.std.specs.Ordering.{int_eq}
 use Rattle.std.specs.Str.{bytes_eq}
@@ -10,8 +10,6 @@ use Rattle.policy_ast.specs.declared.literal.Literal.TheVariants as literal
 use Rattle.policy_ast.specs.declared.pattern.ArmPattern.{ArmPattern}
 use Rattle.policy_ast.specs.declared.pattern.PatternLiteral.{PatternLiteral}
 use Rattle.policy_ast.specs.declared.pattern.PatternLiteral.TheVariants as pattern
-use Rattle.policy_ast.specs.declared.statement.Arm.{Arm}
-use Rattle.policy_ast.specs.declared.statement.Stmt.{Stmt}
 use Rattle.policy_infer.proofs.FieldFacts.{grouped, parted, same_both, unset}
 use Rattle.policy_rules.specs.Coverage.{any_is_last, are_distinct_patterns, is_any, same_literal, same_pattern}
 
@@ -104,9 +102,10 @@ not_new set p values is = rw is refl
 pub values_turn : (set added all left : List PatternLiteral) (p : PatternLiteral) (rest : List PatternLiteral) (is_new : Bool) → left ≡ p ∷ rest
     → is_new ≡ not (list_any (same_pattern p) set) → is_new ≡ true → (is_new ≡ true → added ≡ set ++ p ∷ [])
     → (are_new set left ≡ are_distinct_patterns all) × (set ++ left ≡ all) → (are_new added rest ≡ are_distinct_patterns all) × (added ++ rest ≡ all)
-values_turn set added all left p rest is_new begins says is adds so_far =
-    (ap (λ set. are_new set rest) (adds is) ∙ one_new set p rest (unset is_new (list_any (same_pattern p) set) says is) ∙ ap (are_new set) (sym begins) ∙ so_far.0,
-    ap (λ set. set ++ rest) (adds is) ∙ append_assoc set (p ∷ []) rest ∙ ap (λ left. set ++ left) (sym begins) ∙ so_far.1)
+values_turn set added all left p rest is_new begins says is adds so_far = (
+  ap (λ set. are_new set rest) (adds is) ∙ one_new set p rest (unset is_new (list_any (same_pattern p) set) says is) ∙ ap (are_new set) (sym begins) ∙ so_far.0,
+  ap (λ set. set ++ rest) (adds is) ∙ append_assoc set (p ∷ []) rest ∙ ap (λ left. set ++ left) (sym begins) ∙ so_far.1,
+)
 
 pub value_stops : (set all left : List PatternLiteral) (p : PatternLiteral) (rest : List PatternLiteral) (is_new : Bool) → left ≡ p ∷ rest
     → is_new ≡ not (list_any (same_pattern p) set) → is_new ≡ false → (are_new set left ≡ are_distinct_patterns all) × (set ++ left ≡ all) → are_distinct_patterns all ≡ false
@@ -129,6 +128,7 @@ last_turn p (q ∷ rest) n is =
   where
     above : (n : ℕ) → nat_lt 0 (suc n) ≡ true
     above n = grind (arith, nat_tests)
+
     by : (b : Bool) → (not (b && true) && any_is_last (q ∷ rest)) ≡ (not b && any_is_last (q ∷ rest))
     by true = refl
     by false = refl

@@ -1,12 +1,12 @@
 -- Loops over the elements of a list, each of which may have no type.
-use Rattle.std.proofs.Common.{◌≡◌, ℕ, Bool, true, false, ◌+◌, ◌<◌, ◌≤◌, List, [], ◌∷◌, ◌++◌, length, drop, get_or, Option, Some, None, Result, Ok, Err, option_map, refl, sym, ap, subst, ◌∙◌, IfOk, arith}
+use Rattle.std.proofs.Common.{◌≡◌, ℕ, Bool, true, false, ◌+◌, ◌<◌, List, [], ◌∷◌, ◌++◌, length, drop, get_or, Option, Some, None, Result, Ok, Err, option_map, refl, sym, ap, subst, ◌∙◌}
 use Rattle.std.proofs.lemmas.List.{append_assoc, append-nil, length-append}
 use Rattle.std.proofs.Math.Seq.{drop-length}
 use Rattle.policy_ast.specs.declared.expr.Let.{Let}
 use Rattle.policy_ast.specs.declared.expr.Expr.{Expr}
 use Rattle.policy_ast.specs.declared.item.Item.{Item}
 use Rattle.policy_infer.proofs.FieldFacts.{left_at}
-use Rattle.policy_infer.proofs.ScopeFacts.{keeps_all, keeps_both, keeps_same}
+use Rattle.policy_infer.proofs.ScopeFacts.{keeps_all, keeps_both}
 use Rattle.policy_infer.specs.declared.refusal.Refusal.{Refusal}
 use Rattle.policy_infer.specs.declared.refusal.Refusal.TheVariants as refusal
 use Rattle.policy_infer.specs.working.Answers.{Infers, InfersEach, InfersWithin, Judges, Keeps, Leads}
@@ -159,7 +159,7 @@ module _ (items : List Item) (context : Context) where
       → Led all before after (i + 1)
   led_on {all} {before} {now} {middle} {after} {i} p l lt is q leads keeps =
       let gives : introduced items context l.name now (type_of items context l.value now) ≡ Some after =
-          subst (λ scope. introduced items context l.name scope (type_of items context l.value now) ≡ Some after) q.kept (leads (type_of items context l.value now) q.judged) in
+      subst (λ scope. introduced items context l.name scope (type_of items context l.value now) ≡ Some after) q.kept (leads (type_of items context l.value now) q.judged) in
       record {
         leads = sym (one_led p l lt is ∙ ap (λ o. o >>= λ after. lets_behind items context (drop (i + 1) all) after) gives);
         keeps = keeps_both before middle after (subst (Keeps before) (sym q.kept) p.keeps) keeps;
@@ -179,7 +179,7 @@ module _ (items : List Item) (context : Context) where
           ap (λ o. o >>= λ inner. type_of items context e inner)
           (one_led p l lt is
           ∙ ap (λ o. o >>= λ after. lets_behind items context (drop (i + 1) all) after)
-            (subst (λ scope. introduced items context l.name scope (type_of items context l.value now) ≡ None) q.kept isnt))
+          (subst (λ scope. introduced items context l.name scope (type_of items context l.value now) ≡ None) q.kept isnt))
       by refusal.NoMemory isnt = tt
 
   -- all names are introduced, and the block's value is left

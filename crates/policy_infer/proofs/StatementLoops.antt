@@ -4,21 +4,16 @@ use Rattle.std.proofs.Math.Seq.{drop-length}
 use Rattle.std.proofs.lemmas.Bool.Decides.{nat_tests}
 use Rattle.std.proofs.lemmas.List.{length-drop}
 use Rattle.std.specs.Option.{is_some}
-use Rattle.policy_ast.specs.declared.expr.Expr.{Expr}
-use Rattle.policy_ast.specs.declared.expr.Let.{Let}
 use Rattle.policy_ast.specs.declared.item.Item.{Item}
-use Rattle.policy_ast.specs.declared.pattern.Pattern.{Pattern}
 use Rattle.policy_ast.specs.declared.statement.Arm.{Arm}
 use Rattle.policy_ast.specs.declared.statement.Stmt.{Stmt, out-Stmt}
-use Rattle.policy_ast.specs.declared.statement.Stmt.TheVariants as stmt
 use Rattle.policy_infer.proofs.FieldFacts.{left_at}
 use Rattle.policy_infer.proofs.ScopeFacts.{keeps_all, keeps_both, keeps_same}
-use Rattle.policy_infer.proofs.StatementForms as form
 use Rattle.policy_infer.specs.declared.refusal.Refusal.{Refusal}
 use Rattle.policy_infer.specs.declared.refusal.Refusal.TheVariants as refusal
 use Rattle.policy_infer.specs.working.Answers.{Allows, Infers, Judges, Keeps, Leads, LeadsOn, Tests, TestsWithin}
-use Rattle.policy_infer.specs.working.Behind.{are_arms, are_stmts, behind, is_else, mapped}
-use Rattle.policy_infer.specs.working.Types.{introduced, type_of}
+use Rattle.policy_infer.specs.working.Behind.{are_arms, are_stmts, behind}
+use Rattle.policy_infer.specs.working.Types.{introduced}
 use Rattle.policy_rules.specs.Names.{Name}
 use Rattle.policy_rules.specs.Scopes.{Scope}
 use Rattle.policy_rules.specs.Statements.{is_last_layer, may_precede}
@@ -71,7 +66,7 @@ branches_test found test other before first second third fourth last head then' 
     let q' : Tests otherwise other third last = within_test q n (len ∙ ap (λ scope. length scope) (sym p'.kept)) cut in
     by_test found before last r (a && (test before && other before)) gives
     (all a (test before && other before) is
-      (both (test before) (other before) (subst (λ scope. Allows then' (test scope)) kept p'.judged) (subst (λ scope. Allows otherwise (other scope)) (p'.kept ∙ kept) q'.judged)))
+    (both (test before) (other before) (subst (λ scope. Allows then' (test scope)) kept p'.judged) (subst (λ scope. Allows otherwise (other scope)) (p'.kept ∙ kept) q'.judged)))
     (q'.kept ∙ p'.kept ∙ kept)
 
 failed : (r : Refusal) (o p : Option Scope) (after : Scope) → (o ≡ None → p ≡ None) → Leads (Err r) o after → Leads (Err r) p after
@@ -105,6 +100,7 @@ precede_is s (m ∷ more) n is =
   where
     above : (n : ℕ) → nat_lt 0 (suc n) ≡ true
     above n = grind (arith, nat_tests)
+
     by : (b : Bool) → not (b && true) ≡ not b
     by true = refl
     by false = refl

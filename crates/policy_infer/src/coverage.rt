@@ -74,10 +74,7 @@ fn push_listed<'a>(
 }
 
 /// The values that all arms list, in order.
-fn all_listed<'a>(
-    alloc: Global,
-    arms: &'a [Arm<Stmt>],
-) -> Result<Vec<&'a PatternLiteral>, NoMemory>
+fn all_listed<'a>(alloc: Global, arms: &'a [Arm<Stmt>]) -> Result<Vec<&'a PatternLiteral>, NoMemory>
     ensures { IfOk result (λ all. map (λ p. p.now) all.items ≡ all_listed (map (λ a. a.pattern) arms.now)) }
 {
     let mut all = Vec::new(alloc);
@@ -186,12 +183,7 @@ fn lists_all_values(heads: &Heads<'_>, t: &NamedType, set: &PatternSet<'_>) -> b
 }
 
 /// Whether there is an arm, `_` stands last, and it is there or all values are listed.
-fn arms_cover(
-    heads: &Heads<'_>,
-    t: &NamedType,
-    arms: &[Arm<Stmt>],
-    set: &PatternSet<'_>,
-) -> bool
+fn arms_cover(heads: &Heads<'_>, t: &NamedType, arms: &[Arm<Stmt>], set: &PatternSet<'_>) -> bool
     requires { set.now ≡ all_listed (map (λ a. a.pattern) arms.now) }
     ensures { result ≡ arms_cover heads.now t.now (map (λ a. a.pattern) arms.now) }
 {
@@ -224,12 +216,7 @@ fn are_arm_patterns(
 }
 
 /// The head of a `match`, by the type that was found of its expression.
-pub fn matches_of(
-    alloc: Global,
-    heads: &Heads<'_>,
-    arms: &[Arm<Stmt>],
-    found: Typed,
-) -> Allowed
+pub fn matches_of(alloc: Global, heads: &Heads<'_>, arms: &[Arm<Stmt>], found: Typed) -> Allowed
     ensures { (o : Option NamedType) → Judges found o → Allows result (matches_of heads.now arms.now o) }
 {
     let t = found?;

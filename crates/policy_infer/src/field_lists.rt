@@ -165,11 +165,7 @@ fn key_fits(key: &Named, field: &Free<Expr>, gap: &Option<NamedType>) -> bool
 }
 
 /// A leading part of the keys, in declared order, where each expression fits its key.
-fn are_leading_keys(
-    keys: &[Named],
-    fields: &[Free<Expr>],
-    gaps: &[Option<NamedType>],
-) -> bool
+fn are_leading_keys(keys: &[Named], fields: &[Free<Expr>], gaps: &[Option<NamedType>]) -> bool
     requires { length gaps.now ≡ length fields.now }
     ensures { result ≡ are_leading_keys keys.now (map (λ f. f.name) fields.now) gaps.now }
 {
@@ -200,11 +196,7 @@ fn gaps_are_last(gaps: &[Option<NamedType>]) -> bool
 }
 
 /// Whether each name is a value field's, and its expression fits that field's type.
-fn fit_values(
-    values: &[Named],
-    fields: &[Free<Expr>],
-    gaps: &[Option<NamedType>],
-) -> bool
+fn fit_values(values: &[Named], fields: &[Free<Expr>], gaps: &[Option<NamedType>]) -> bool
     requires { length gaps.now ≡ length fields.now }
     ensures { result ≡ fit_values values.now (map (λ f. f.name) fields.now) gaps.now }
 {

@@ -59,12 +59,7 @@ fn keys_bound(fact: FactHead<'_>, binds: &[Bind<Expr>], found: AllTyped) -> Allo
 }
 
 /// Each value field of a fact once, in any order.
-fn values_bound(
-    alloc: Global,
-    fact: FactHead<'_>,
-    binds: &[Bind<Expr>],
-    found: AllTyped,
-) -> Allowed
+fn values_bound(alloc: Global, fact: FactHead<'_>, binds: &[Bind<Expr>], found: AllTyped) -> Allowed
     requires { IfOk found (λ types. length types ≡ length binds.now) }
     ensures { (o : Option (List NamedType)) → Judges found o → Allows result (values_bound_of (fact_view fact.entry) binds.now o) }
 {
@@ -131,7 +126,10 @@ fn update(
     let is_pattern = is_pattern(alloc, heads, context, scope, p);
     let found = infer_binds(alloc, heads, context, scope, to);
     let binds = allowed(binds_all_keys(fact, p));
-    both_hold(is_pattern, both_hold(binds, values_bound(alloc, fact, to, found)))
+    both_hold(
+        is_pattern,
+        both_hold(binds, values_bound(alloc, fact, to, found)),
+    )
 }
 
 fn delete(

@@ -30,11 +30,8 @@ fn always_returns(s: &Stmt) -> bool
             }
         }
         Stmt::Match(_, arms) => arms_return(arms.as_slice()),
-        Stmt::Let(_)
-        | Stmt::Check(_)
-        | Stmt::Finish(_)
-        | Stmt::Map(_, _, _)
-        | Stmt::Publish(_) => false,
+        Stmt::Let(_) | Stmt::Check(_) | Stmt::Finish(_) | Stmt::Map(_, _, _) | Stmt::Publish(_) =>
+            false,
     }
 }
 

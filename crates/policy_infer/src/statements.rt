@@ -11,9 +11,7 @@ use crate::expressions::infer;
 use crate::finish::finishes;
 use crate::refusal::Refusal;
 use crate::scope::Scope;
-use crate::statement_rules::{
-    Allowed, begin_map, both_hold, check_of, publishes_of, returns_of,
-};
+use crate::statement_rules::{Allowed, begin_map, both_hold, check_of, publishes_of, returns_of};
 use crate::uses::introduce;
 use policy_ast::{Arm, Else, IfStmt, Stmt};
 use policy_heads::Heads;

@@ -161,9 +161,7 @@ pub fn counted(n: &i64, t: Typed) -> Typed
 fn may_introduce(heads: &Heads<'_>, context: &Context, scope: &Scope, name: &Name) -> bool
     ensures { result ≡ may_introduce heads.now context.now scope.now name.now }
 {
-    scope.type_in(name).is_none()
-        && !heads.is_let_name(name)
-        && !is_kept_envelope(context, name)
+    scope.type_in(name).is_none() && !heads.is_let_name(name) && !is_kept_envelope(context, name)
 }
 
 /// Introduces a name for a value of the type that was found, where it may be introduced.

@@ -10,7 +10,6 @@ use Rattle.policy_ast.specs.declared.pattern.Pattern.{Pattern}
 use Rattle.policy_ast.specs.declared.statement.Arm.{Arm}
 use Rattle.policy_ast.specs.declared.statement.Else.{Else}
 use Rattle.policy_ast.specs.declared.statement.Else.TheVariants as else_stmt
-use Rattle.policy_ast.specs.declared.statement.IfStmt.{IfStmt}
 use Rattle.policy_ast.specs.declared.statement.Stmt.{Stmt}
 use Rattle.policy_rules.specs.Coverage.{are_arm_patterns}
 use Rattle.policy_rules.specs.FieldLists.{arguments_fit, in_any_order, in_declared_order}
@@ -65,7 +64,7 @@ module _ (items : List Item) (context : Context) where
       holds (fact_named items name) (λ fact. keys_bound_of fact keys (bind_types items context keys scope) && values_bound_of fact values (bind_types items context values scope))
   finish_is (finish.Update p to) scope =
       holds (fact_named items p.fact) (λ fact.
-        not fact.is_immutable && (is_some (pattern_type items context p ty.Bool scope) && (binds_all_keys fact p && values_bound_of fact to (bind_types items context to scope))))
+      not fact.is_immutable && (is_some (pattern_type items context p ty.Bool scope) && (binds_all_keys fact p && values_bound_of fact to (bind_types items context to scope))))
   finish_is (finish.Delete name keys) scope = holds (fact_named items name) (λ fact. keys_bound_of fact keys (bind_types items context keys scope))
   finish_is (finish.Emit e) scope = emits_of items e (type_of items context e scope)
   finish_is (finish.Call name arguments) scope =

@@ -12,4 +12,4 @@ returns c =
     let body = c.args.body.now in
     subst (λ (b : Bool). IfOk c.is_allowed.result (λ is. is ≡ b)) (sym (stmts_same items context body c.args.parameters.now))
     (c.is_allowed.ensures (are_stmts items context body c.args.parameters.now)
-      (subst (λ (scope : Scope). Allows c.judge_all.result (are_stmts items context body scope)) c.in_ok-scope.ensures c.judge_all.ensures.judged))
+    (subst (λ (scope : Scope). Allows c.judge_all.result (are_stmts items context body scope)) c.in_ok-scope.ensures c.judge_all.ensures.judged))

@@ -12,4 +12,4 @@ returns c =
     let body = c.args.body.now in
     subst (λ (b : Bool). IfOk c.is_allowed.result (λ is. is ≡ b)) (sym (finishes_same items context body c.args.parameters.now))
     (c.is_allowed.ensures (finish_are items context body c.args.parameters.now)
-      (subst (λ (scope : Scope). Allows c.finish_stmts.result (finish_are items context body scope)) c.in_ok-scope.ensures c.finish_stmts.ensures.judged))
+    (subst (λ (scope : Scope). Allows c.finish_stmts.result (finish_are items context body scope)) c.in_ok-scope.ensures c.finish_stmts.ensures.judged))

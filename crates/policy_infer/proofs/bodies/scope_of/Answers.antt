@@ -7,7 +7,8 @@ push-requires c =
     c.loop-parameter-test.true c.parameter-item.is
 
 pub loop-parameter-preserved : goal.loop-parameter-preserved
-loop-parameter-preserved c =
-    (c.loop-parameter.invariant.0,
-    rw (c.in_ok-push.ensures.added, c.in_ok-t.ensures)
-    (scope_more c.loop-parameter.scope c.args.parameters.now c.loop-parameter.parameter-index c.parameter-item.result c.loop-parameter.invariant.1 c.loop-parameter-test.true c.parameter-item.is))
+loop-parameter-preserved c = (
+  c.loop-parameter.invariant.0,
+  rw (c.in_ok-push.ensures.added, c.in_ok-t.ensures)
+      (scope_more c.loop-parameter.scope c.args.parameters.now c.loop-parameter.parameter-index c.parameter-item.result c.loop-parameter.invariant.1 c.loop-parameter-test.true c.parameter-item.is),
+)

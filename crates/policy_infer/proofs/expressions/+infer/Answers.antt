@@ -1,16 +1,13 @@
-use Rattle.std.proofs.Common.{◌≡◌, ◌∙◌, List, Option, Some, None, length, map, refl, sym, ap, subst, option_map, arith}
+use Rattle.std.proofs.Common.{◌∙◌, Some, None, length, map, refl, sym, ap, option_map, arith}
 use Rattle.std.proofs.lemmas.Result.{err_from_is_err_and}
-use Rattle.policy_ast.specs.declared.expr.ElseExpr.TheVariants as else_expr
 use Rattle.policy_ast.specs.declared.expr.Expr.{Expr}
-use Rattle.policy_ast.specs.declared.expr.Expr.TheVariants as expr
 use Rattle.policy_infer.proofs.Arms.{by_none, by_one, by_three, by_two, each, within}
 use Rattle.policy_infer.proofs.FormTypes.{and_is, calculation_is, call_is, choice_is, compare_is, count_is, exists_is, field_is, foreign_call_is, literal_is, name_is, none_is, or_is, presence_is, query_is, some_is, struct_is, this_is, unary_is}
 use Rattle.policy_infer.proofs.SoFar.{begins, ends, gap_turns, itself, lacks, led, led_on, let_ends, let_stops, stops, turns}
-use Rattle.policy_infer.specs.working.Types.{are_envelopes, bind_types, block_of, gap_type_of, gap_types_of, lets_behind, otherwise_of, type_of, types_of}
+use Rattle.policy_infer.specs.working.Types.{bind_types, gap_type_of, gap_types_of, type_of, types_of}
 use Rattle.policy_rules.specs.Expressions.{count_type, is_positive, value_part}
-use Rattle.policy_rules.specs.Scopes.{Scope}
 use Rattle.policy_rules.specs.declared.types.NamedType.TheVariants as ty
-use Rattle.policy_rules.specs.working.Inference.{calculation_of, call_of, choice_of, compare_of, field_of, is_foreign_call, logic_of, only_if, presence_of, struct_literal_of, unary_of, with_pattern}
+use Rattle.policy_rules.specs.working.Inference.{calculation_of, call_of, choice_of, compare_of, field_of, logic_of, only_if, presence_of, struct_literal_of, unary_of, with_pattern}
 use Rattle.policy_infer.proofs.expressions.+infer.Goals as goal
 
 pub infer-returns-in-Or : goal.infer-returns-in-Or
@@ -123,8 +120,8 @@ infer-returns-in-Count t c =
     (ap (λ (e : Expr). type_of c.args.heads.now c.args.context.now e c.args.scope.now) c.in-Count.is ∙ count_is c.args.heads.now c.args.context.now c.args.scope.now c.in-Count.op c.in-Count.n c.in-Count.p)
     (each c.pattern_keys-keys-in-Count.ensures) (each c.pattern_values-values-in-Count.ensures)
     (λ ks vs keys values.
-      c.counted.ensures (with_pattern c.args.heads.now c.in-Count.p.fact (map (λ f. f.name) c.in-Count.p.keys) ks (map (λ f. f.name) (value_part c.in-Count.p.values)) vs (count_type c.in-Count.op))
-      (c.pattern_type-in-Count.ensures ks vs (count_type c.in-Count.op) keys values (ap Some (sym c.count_type.ensures))))
+    c.counted.ensures (with_pattern c.args.heads.now c.in-Count.p.fact (map (λ f. f.name) c.in-Count.p.keys) ks (map (λ f. f.name) (value_part c.in-Count.p.values)) vs (count_type c.in-Count.op))
+    (c.pattern_type-in-Count.ensures ks vs (count_type c.in-Count.op) keys values (ap Some (sym c.count_type.ensures))))
 
 pub infer-returns-in-If : goal.infer-returns-in-If
 infer-returns-in-If t c =
@@ -142,7 +139,7 @@ infer_all-returns-in_err-types t c =
     let p = err_from_is_err_and c.from_residual.result c.from_residual.ensures.1 in
     rw (p.1, p.2)
     (stops (types_of c.args.heads.now c.args.context.now) (type_of c.args.heads.now c.args.context.now) (λ x xs scope. refl) (λ scope. refl) c.loop-e.invariant c.e-item.result (λ t. t) c.in_err-types.field-0.0 (length c.args.es.now) c.loop-e-test.true c.e-item.is
-      (λ scope. itself (type_of c.args.heads.now c.args.context.now c.e-item.result scope)) c.infer.ensures c.in_err-types.ensures)
+    (λ scope. itself (type_of c.args.heads.now c.args.context.now c.e-item.result scope)) c.infer.ensures c.in_err-types.ensures)
 
 pub infer_all-loop-e-preserved : goal.infer_all-loop-e-preserved
 infer_all-loop-e-preserved t c =
@@ -162,7 +159,7 @@ infer_binds-returns-in_err-types t c =
     let p = err_from_is_err_and c.from_residual.result c.from_residual.ensures.1 in
     rw (p.1, p.2)
     (stops (bind_types c.args.heads.now c.args.context.now) (λ b. type_of c.args.heads.now c.args.context.now b.value) (λ x xs scope. refl) (λ scope. refl) c.loop-bind.invariant c.bind-item.result (λ t. t) c.in_err-types.field-0.0 (length c.args.binds.now) c.loop-bind-test.true c.bind-item.is
-      (λ scope. itself (type_of c.args.heads.now c.args.context.now c.bind-item.result.value scope)) c.infer.ensures c.in_err-types.ensures)
+    (λ scope. itself (type_of c.args.heads.now c.args.context.now c.bind-item.result.value scope)) c.infer.ensures c.in_err-types.ensures)
 
 pub infer_binds-loop-bind-preserved : goal.infer_binds-loop-bind-preserved
 infer_binds-loop-bind-preserved t c =
@@ -193,7 +190,7 @@ pattern_keys-returns-in_err-types t c =
     let p = err_from_is_err_and c.from_residual-in_err-types.result c.from_residual-in_err-types.ensures.1 in
     rw (p.1, p.2, ← c.as_slice-field-items.ensures)
     (stops (gap_types_of c.args.heads.now c.args.context.now) (λ f. gap_type_of c.args.heads.now c.args.context.now f.value) (λ x xs scope. refl) (λ scope. refl) c.loop-field.invariant c.field-item.result Some c.in_err-types.field-0.0 (length c.as_slice-field-items.result.now) c.loop-field-test.true c.field-item.is
-      (λ scope. ap (λ v. gap_type_of c.args.heads.now c.args.context.now v scope) c.in-Some.is) c.infer.ensures c.in_err-types.ensures)
+    (λ scope. ap (λ v. gap_type_of c.args.heads.now c.args.context.now v scope) c.in-Some.is) c.infer.ensures c.in_err-types.ensures)
 
 pub pattern_keys-loop-field-preserved : goal.pattern_keys-loop-field-preserved
 pattern_keys-loop-field-preserved t c =
@@ -224,7 +221,7 @@ pattern_values-returns-in_err-types t c =
     let p = err_from_is_err_and c.from_residual-in_err-types.result c.from_residual-in_err-types.ensures.1 in
     rw (p.1, p.2, c.in-Some.is, ← c.as_slice-field-items.ensures)
     (stops (gap_types_of c.args.heads.now c.args.context.now) (λ f. gap_type_of c.args.heads.now c.args.context.now f.value) (λ x xs scope. refl) (λ scope. refl) c.loop-field.invariant c.field-item.result Some c.in_err-types.field-0.0 (length c.as_slice-field-items.result.now) c.loop-field-test.true c.field-item.is
-      (λ scope. ap (λ v. gap_type_of c.args.heads.now c.args.context.now v scope) c.in-Some-value.is) c.infer.ensures c.in_err-types.ensures)
+    (λ scope. ap (λ v. gap_type_of c.args.heads.now c.args.context.now v scope) c.in-Some-value.is) c.infer.ensures c.in_err-types.ensures)
 
 pub pattern_values-loop-field-preserved : goal.pattern_values-loop-field-preserved
 pattern_values-loop-field-preserved t c =
@@ -244,7 +241,7 @@ infer_then-returns-in_err-introduce t c =
     let p = err_from_is_err_and c.from_residual.result c.from_residual.ensures.1 in
     rw (p.1, p.2, ← c.as_slice-one-items.ensures)
     (let_stops c.args.heads.now c.args.context.now c.loop-one.invariant c.one-item.result c.args.x.now.then.value c.in_err-introduce.field-0.0 c.loop-one-test.true c.one-item.is c.infer-found.ensures
-      c.in_err-introduce.ensures.judged c.in_err-introduce.ensures.kept)
+    c.in_err-introduce.ensures.judged c.in_err-introduce.ensures.kept)
 
 pub infer_then-loop-one-preserved : goal.infer_then-loop-one-preserved
 infer_then-loop-one-preserved t c =
@@ -263,7 +260,7 @@ infer_otherwise-returns-in_err-introduce t c =
     let p = err_from_is_err_and c.from_residual.result c.from_residual.ensures.1 in
     rw (p.1, p.2, c.in-Block.is, ← c.as_slice-one-items.ensures)
     (let_stops c.args.heads.now c.args.context.now c.loop-one.invariant c.one-item.result c.in-Block.b.value c.in_err-introduce.field-0.0 c.loop-one-test.true c.one-item.is c.infer-found.ensures
-      c.in_err-introduce.ensures.judged c.in_err-introduce.ensures.kept)
+    c.in_err-introduce.ensures.judged c.in_err-introduce.ensures.kept)
 
 pub infer_otherwise-loop-one-preserved : goal.infer_otherwise-loop-one-preserved
 infer_otherwise-loop-one-preserved t c =

@@ -6,4 +6,4 @@ pub returns : goal.returns
 returns c =
     c.are_among.ensures
     ∙ order_by_set c.args.fields.now (map (λ b. b.name) c.args.binds.now) c.in-Some.names c.args.types.now (rw c.in-Some.is at c.in_ok-names.ensures)
-      (sym c.fit_fields.ensures ∙ c.if-not-fit_fields.false)
+    (sym c.fit_fields.ensures ∙ c.if-not-fit_fields.false)

@@ -1,5 +1,4 @@
 use Rattle.std.proofs.Common.{◌∙◌, ◌+◌, ◌-◌, ◌&&◌, ap, drop, length, sym}
-use Rattle.policy_ast.specs.declared.statement.Stmt.{Stmt}
 use Rattle.policy_infer.proofs.ReturnFacts.{arm_turn, last_decides, last_place, match_returns}
 use Rattle.policy_infer.specs.working.Returns.{arms_return}
 use Rattle.policy_rules.specs.Statements.{always_returns}
@@ -18,12 +17,12 @@ pub arms_return-loop-arm-preserved : goal.arms_return-loop-arm-preserved
 arms_return-loop-arm-preserved t c =
     sym
     (arm_turn c.args.arms.now c.loop-arm.arm-index c.arm-item.result c.as_slice-body.result.now c.index-body-body.result c.is_empty.result c.always_returns.result c.loop-arm-test.true
-      c.arm-item.is c.as_slice-body.ensures c.is_empty.ensures c.if-is_empty.false c.index-body-body.is c.always_returns.ensures c.loop-arm.invariant
+    c.arm-item.is c.as_slice-body.ensures c.is_empty.ensures c.if-is_empty.false c.index-body-body.is c.always_returns.ensures c.loop-arm.invariant
     ∙ ap (λ b. b && arms_return (drop (c.loop-arm.arm-index + 1) c.args.arms.now)) c.if-not-always_returns.false)
 
 pub arms_return-returns-then-not-always_returns : goal.arms_return-returns-then-not-always_returns
 arms_return-returns-then-not-always_returns t c =
     sym
     (arm_turn c.args.arms.now c.loop-arm.arm-index c.arm-item.result c.as_slice-body.result.now c.index-body-body.result c.is_empty.result c.always_returns.result c.loop-arm-test.true
-      c.arm-item.is c.as_slice-body.ensures c.is_empty.ensures c.if-is_empty.false c.index-body-body.is c.always_returns.ensures c.loop-arm.invariant
+    c.arm-item.is c.as_slice-body.ensures c.is_empty.ensures c.if-is_empty.false c.index-body-body.is c.always_returns.ensures c.loop-arm.invariant
     ∙ ap (λ b. b && arms_return (drop (c.loop-arm.arm-index + 1) c.args.arms.now)) c.if-not-always_returns.true)

@@ -3,13 +3,11 @@ use Rattle.std.proofs.lemmas.Result.{err_from_is_err_and}
 use Rattle.policy_ast.specs.declared.statement.Else.{Else}
 use Rattle.policy_ast.specs.declared.statement.Else.TheVariants as else_stmt
 use Rattle.policy_ast.specs.declared.statement.Stmt.{Stmt}
-use Rattle.policy_ast.specs.declared.statement.Stmt.TheVariants as stmt
 use Rattle.policy_infer.proofs.StatementForms.{check_is, choice_is, finish_block_is, let_is, map_is, match_is, publish_is, return_is}
 use Rattle.policy_infer.proofs.StatementLoops.{arm_stops, arms_begin, arms_end, arms_on, arms_test, as_else, branches_test, by_name, by_test, last_stops, map_fails, map_tests, stmt_stops, stmts_end, through, through_on}
 use Rattle.policy_infer.specs.declared.refusal.Refusal.TheVariants as refusal
 use Rattle.policy_infer.specs.working.Behind.{are_arms, are_stmts, behind, finishes, is_bool_of, is_else, mapped, matches_of, publishes_of, returns_of}
 use Rattle.policy_infer.specs.working.Types.{type_of}
-use Rattle.policy_rules.specs.Scopes.{Scope}
 use Rattle.policy_rules.specs.working.Inference.{only_if}
 use Rattle.std.specs.Prelude.{Some}
 use Rattle.policy_infer.proofs.statements.+judge.Goals as goal
@@ -32,7 +30,7 @@ judge-returns-in-If t c =
     c.judge_else-otherwise.new.scope c.truncate-in-If.new.self c.check_of-head.result c.judge_all-then.result c.judge_else-otherwise.result c.both_hold.result c.both_hold-in-If.result
     (is_bool_of (type_of c.args.heads.now c.args.context.now c.in-If.x.head c.args.scope.now)) c.len-outside.result
     ((ap (λ (s : Stmt). behind c.args.heads.now c.args.context.now s c.args.scope.now) c.in-If.is ∙ choice_is c.args.heads.now c.args.context.now c.args.scope.now c.in-If.x)
-      ∙ ap (λ body. only_if (is_bool_of (type_of c.args.heads.now c.args.context.now c.in-If.x.head c.args.scope.now) && (are_stmts c.args.heads.now c.args.context.now body c.args.scope.now && is_else c.args.heads.now c.args.context.now c.in-If.x.otherwise c.args.scope.now)) (Some c.args.scope.now)) (sym c.as_slice.ensures))
+    ∙ ap (λ body. only_if (is_bool_of (type_of c.args.heads.now c.args.context.now c.in-If.x.head c.args.scope.now) && (are_stmts c.args.heads.now c.args.context.now body c.args.scope.now && is_else c.args.heads.now c.args.context.now c.in-If.x.otherwise c.args.scope.now)) (Some c.args.scope.now)) (sym c.as_slice.ensures))
     (c.check_of-head.ensures (type_of c.args.heads.now c.args.context.now c.in-If.x.head c.args.scope.now) c.infer-in-If.ensures.judged) c.infer-in-If.ensures.kept c.judge_all-then.ensures c.len-outside.ensures c.truncate.ensures
     c.judge_else-otherwise.ensures c.truncate-in-If.ensures c.both_hold.ensures c.both_hold-in-If.ensures
 
@@ -67,7 +65,7 @@ judge-returns-in_err-begin_map-in-Map t c =
     let p = err_from_is_err_and c.from_residual.result c.from_residual.ensures.1 in
     rw (p.1, p.2)
     (map_fails (behind c.args.heads.now c.args.context.now c.args.s.now) (mapped c.args.heads.now c.args.context.now c.in-Map.p c.in-Map.name) (λ inner. only_if (are_stmts c.args.heads.now c.args.context.now c.in-Map.body inner) (Some c.args.scope.now)) c.args.scope.now c.begin_map.new.scope c.in_err-begin_map-in-Map.field-0.0
-      (ap (λ (s : Stmt). behind c.args.heads.now c.args.context.now s c.args.scope.now) c.in-Map.is ∙ map_is c.args.heads.now c.args.context.now c.args.scope.now c.in-Map.p c.in-Map.name c.in-Map.body) c.in_err-begin_map-in-Map.ensures)
+    (ap (λ (s : Stmt). behind c.args.heads.now c.args.context.now s c.args.scope.now) c.in-Map.is ∙ map_is c.args.heads.now c.args.context.now c.args.scope.now c.in-Map.p c.in-Map.name c.in-Map.body) c.in_err-begin_map-in-Map.ensures)
 
 pub judge-returns-in_ok-begin_map-in-Map : goal.judge-returns-in_ok-begin_map-in-Map
 judge-returns-in_ok-begin_map-in-Map t c =
@@ -88,7 +86,7 @@ judge_all-returns-in_err-judge t c =
 pub judge_all-returns-then-is_misplaced : goal.judge_all-returns-then-is_misplaced
 judge_all-returns-then-is_misplaced t c =
     (last_stops c.args.heads.now c.args.context.now c.loop-i.invariant c.index-body-i.result c.index-body-i-in-loop-i.result c.is_misplaced.result c.loop-i-test.true c.index-body-i.is c.index-body-i-in-loop-i.is
-      c.in_ok-judge.ensures c.is_misplaced.ensures c.if-is_misplaced.true)
+    c.in_ok-judge.ensures c.is_misplaced.ensures c.if-is_misplaced.true)
 
 pub judge_all-loop-i-preserved : goal.judge_all-loop-i-preserved
 judge_all-loop-i-preserved t c =
@@ -113,7 +111,7 @@ pub judge_else-returns-then-is_misplaced : goal.judge_else-returns-then-is_mispl
 judge_else-returns-then-is_misplaced t c =
     let there : ◌≡◌ {A = Option (Else Stmt)} c.args.x.now.otherwise (Some (else_stmt.Block c.in-Some-Block.body)) = search rules in
     rw (there, ← c.as_slice-body.ensures) (last_stops c.args.heads.now c.args.context.now c.loop-i.invariant c.index-body-i.result c.index-body-i-in-loop-i.result c.is_misplaced.result c.loop-i-test.true c.index-body-i.is c.index-body-i-in-loop-i.is
-      c.in_ok-judge.ensures c.is_misplaced.ensures c.if-is_misplaced.true)
+    c.in_ok-judge.ensures c.is_misplaced.ensures c.if-is_misplaced.true)
 
 pub judge_else-loop-i-preserved : goal.judge_else-loop-i-preserved
 judge_else-loop-i-preserved t c =
@@ -149,7 +147,7 @@ pub judge_arms-returns-then-is_misplaced : goal.judge_arms-returns-then-is_mispl
 judge_arms-returns-then-is_misplaced t c =
     arm_stops c.args.heads.now c.args.context.now c.loop-arm.invariant c.arm-item.result refusal.IllTyped c.loop-arm-test.true c.arm-item.is
     (rw (← c.as_slice-body.ensures) (last_stops c.args.heads.now c.args.context.now c.loop-i.invariant c.index-body-i.result c.index-body-i-in-loop-i.result c.is_misplaced.result c.loop-i-test.true c.index-body-i.is c.index-body-i-in-loop-i.is
-      c.in_ok-judge.ensures c.is_misplaced.ensures c.if-is_misplaced.true))
+    c.in_ok-judge.ensures c.is_misplaced.ensures c.if-is_misplaced.true))
 
 pub judge_arms-loop-i-preserved : goal.judge_arms-loop-i-preserved
 judge_arms-loop-i-preserved t c =

@@ -9,5 +9,5 @@ pub returns-clause-is_new : goal.returns-clause-is_new
 returns-clause-is_new c =
     c.in_ok-insert.ensures.added
     ∙ ap not
-      (any_listed c.value_of.result c.self.inside.values.keys ∙ ap (list_any (same_pattern (listed_value c.value_of.result))) c.self.view_is
-      ∙ ap (λ p. list_any (same_pattern p) c.args.self.now) c.value_of.ensures)
+    (any_listed c.value_of.result c.self.inside.values.keys ∙ ap (list_any (same_pattern (listed_value c.value_of.result))) c.self.view_is
+    ∙ ap (λ p. list_any (same_pattern p) c.args.self.now) c.value_of.ensures)
