@@ -1,7 +1,7 @@
 use base_bytes::{Bytes, Id, NoMemory, Tag, Text};
 use outside::{
-    Disk, Envelope, Failed, Files, HostFiles, HostSink, ListEnvelope, MemoryDisk, MemoryFiles,
-    MemorySink, ReadFail, Sink, TagEnvelope, author_of,
+    Disk, Envelope, Failed, FileDisk, Files, HostFiles, HostSink, ListEnvelope, MemoryDisk,
+    MemoryFiles, MemorySink, ReadFail, Sink, TagEnvelope, author_of,
 };
 use std::alloc::Global;
 use std::io::{ErrorKind, Write};
@@ -169,6 +169,28 @@ fn files_of_the_host_are_read(rt: HostRuntime) -> Result<(), Fail> {
         );
     }
     fs::remove_file(&rt, "outside_test.txt")?;
+    Ok(())
+}
+
+// The first call makes the file, and another disk finds what was written there. A name that is a folder's is no disk.
+#[test]
+fn a_disk_of_the_host_keeps_its_file(rt: HostRuntime) -> Result<(), Fail> {
+    let alloc = rt.alloc();
+    let name = "outside_disk_test.bin";
+    let mut disk = FileDisk::new(&rt, Text::from_slice(alloc, name)?);
+    assert!(rt; fs::metadata(&rt, name).is_err());
+    assert!(rt; disk.len() == Ok(0));
+    assert!(rt; disk.write_at(0, b"abcd").is_ok());
+    assert!(rt; disk.sync().is_ok());
+    assert!(rt; disk.write_at(2, b"XYZ").is_ok());
+    assert!(rt; disk.len() == Ok(5));
+    let mut other = FileDisk::new(&rt, Text::from_slice(alloc, name)?);
+    let mut into = [b'.'; 4];
+    assert!(rt; other.read_at(3, &mut into) == Ok(2));
+    assert!(rt; into.as_slice() == b"YZ..".as_slice());
+    let mut folder = FileDisk::new(&rt, Text::from_slice(alloc, ".")?);
+    assert!(rt; folder.sync() == Err(Failed));
+    fs::remove_file(&rt, name)?;
     Ok(())
 }
 

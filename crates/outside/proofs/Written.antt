@@ -3,16 +3,32 @@ use Rattle.std.proofs.Common.{◌≡◌, ◌∙◌, ap, sym, refl, arith, inl, i
 use Rattle.std.specs.Prelude.{reverse}
 use Rattle.std.proofs.lemmas.Grind.{common_steps}
 use Rattle.std.proofs.lemmas.List.{drop-drop, reverse-append, take-append-drop}
-use Rattle.outside.specs.Disk.{Content, Moment, IsImage, overwritten, with_range}
-use Rattle.outside.specs.working.Replaced.{undone, moment_after}
+use Rattle.outside.specs.Disk.{Content, Moment, IsImage, at_rest, overwritten, with_range}
+use Rattle.outside.specs.working.Replaced.{undone, moment_after, past_after}
+use Rattle.outside.specs.declared.call.Call.{Call}
+use Rattle.outside.specs.declared.call.Call.TheVariants as call
 use Rattle.outside.specs.declared.replaced.Replaced.{Replaced}
 
--- the moment after one write more
-pub moment_more : (writes : List Replaced) (write : Replaced) (old new : List ℕ) → undone write new ≡ old →
-    moment_after (reverse (writes ++ write ∷ [])) new ≡ with_range write.at write.range_length (moment_after (reverse writes) old)
-moment_more writes write old new back =
-    ap (λ ws. moment_after ws new) (reverse-append writes (write ∷ []))
-    ∙ ap (λ bytes. with_range write.at write.range_length (moment_after (reverse writes) bytes)) back
+-- the moments after one write more
+pub moment_more : (calls : List Call) (write : Replaced) (old new : List ℕ) → undone write new ≡ old →
+    moment_after (reverse (calls ++ call.Wrote write ∷ [])) new ≡ with_range write.at write.range_length (moment_after (reverse calls) old)
+moment_more calls write old new back =
+    ap (λ cs. moment_after cs new) (reverse-append calls (call.Wrote write ∷ []))
+    ∙ ap (λ bytes. with_range write.at write.range_length (moment_after (reverse calls) bytes)) back
+
+pub past_more : (calls : List Call) (write : Replaced) (old new : List ℕ) → undone write new ≡ old →
+    past_after (reverse (calls ++ call.Wrote write ∷ [])) new ≡ moment_after (reverse calls) old ∷ past_after (reverse calls) old
+past_more calls write old new back =
+    ap (λ cs. past_after cs new) (reverse-append calls (call.Wrote write ∷ []))
+    ∙ ap (λ bytes. moment_after (reverse calls) bytes ∷ past_after (reverse calls) bytes) back
+
+-- the moments after one sync more
+pub moment_synced : (calls : List Call) (bytes : List ℕ) → moment_after (reverse (calls ++ call.Synced ∷ [])) bytes ≡ at_rest bytes
+moment_synced calls bytes = ap (λ cs. moment_after cs bytes) (reverse-append calls (call.Synced ∷ []))
+
+pub past_synced : (calls : List Call) (bytes : List ℕ) →
+    past_after (reverse (calls ++ call.Synced ∷ [])) bytes ≡ moment_after (reverse calls) bytes ∷ past_after (reverse calls) bytes
+past_synced calls bytes = ap (λ cs. past_after cs bytes) (reverse-append calls (call.Synced ∷ []))
 
 -- how many bytes there are afterwards
 length_overwritten : (old front : List ℕ) (at : ℕ) → at ≤ length old → length (overwritten old at front) ≡ max (at + length front) (length old)
@@ -54,24 +70,31 @@ pub undone_overwritten : (write : Replaced) (old front : List ℕ) → write.at 
 undone_overwritten write old front within written under =
     rw (front_back old front write.at within, behind_back old front write.at write.written_length within written, under) (parts_joined old write.at write.written_length)
 
--- what a write that is noted behind the others makes of the moment
-pub moment_written : (writes noted : List Replaced) (write : Replaced) (old new front : List ℕ) → noted ≡ writes ++ write ∷ [] →
+-- what a write that is recorded behind the other calls makes of the moments
+pub moment_written : (calls recorded : List Call) (write : Replaced) (old new front : List ℕ) → recorded ≡ calls ++ call.Wrote write ∷ [] →
     new ≡ overwritten old write.at front → write.at ≤ length old → write.written_length ≡ length front →
     write.under ≡ take write.written_length (drop write.at old) →
-    moment_after (reverse noted) new ≡ with_range write.at write.range_length (moment_after (reverse writes) old)
-moment_written writes noted write old new front pushed is within written under =
-    rw (pushed, is) (moment_more writes write old (overwritten old write.at front) (undone_overwritten write old front within written under))
+    moment_after (reverse recorded) new ≡ with_range write.at write.range_length (moment_after (reverse calls) old)
+moment_written calls recorded write old new front pushed is within written under =
+    rw (pushed, is) (moment_more calls write old (overwritten old write.at front) (undone_overwritten write old front within written under))
+
+pub past_written : (calls recorded : List Call) (write : Replaced) (old new front : List ℕ) → recorded ≡ calls ++ call.Wrote write ∷ [] →
+    new ≡ overwritten old write.at front → write.at ≤ length old → write.written_length ≡ length front →
+    write.under ≡ take write.written_length (drop write.at old) →
+    past_after (reverse recorded) new ≡ moment_after (reverse calls) old ∷ past_after (reverse calls) old
+past_written calls recorded write old new front pushed is within written under =
+    rw (pushed, is) (past_more calls write old (overwritten old write.at front) (undone_overwritten write old front within written under))
 
 -- the same of the image
-pub image_noted : (writes noted : List Replaced) (write : Replaced) (old new front : List ℕ) → noted ≡ writes ++ write ∷ [] →
+pub image_recorded : (calls recorded : List Call) (write : Replaced) (old new front : List ℕ) → recorded ≡ calls ++ call.Wrote write ∷ [] →
     new ≡ overwritten old write.at front → write.at ≤ length old → write.written_length ≡ length front →
     write.under ≡ take write.written_length (drop write.at old) → length front ≤ write.range_length →
-    IsImage (moment_after (reverse writes) old) old → IsImage (moment_after (reverse noted) new) new
-image_noted writes noted write old new front pushed is within written under short image =
-    rw (moment_written writes noted write old new front pushed is within written under, is)
-    (image_written (moment_after (reverse writes) old) old front write.at write.range_length within short image)
+    IsImage (moment_after (reverse calls) old) old → IsImage (moment_after (reverse recorded) new) new
+image_recorded calls recorded write old new front pushed is within written under short image =
+    rw (moment_written calls recorded write old new front pushed is within written under, is)
+    (image_written (moment_after (reverse calls) old) old front write.at write.range_length within short image)
 
--- a content is its two parts
-pub content_of : {reads other : List ℕ} {now moment : Moment} → reads ≡ other → now ≡ moment →
-    (let left : Content = record { reads = reads; now = now } in left) ≡ record { reads = other; now = moment }
-content_of same_reads same_now = rw (same_reads, same_now) refl
+-- a content is its three parts
+pub content_of : {reads other : List ℕ} {now moment : Moment} {past before : List Moment} → reads ≡ other → now ≡ moment → past ≡ before →
+    (let left : Content = record { reads = reads; now = now; past = past } in left) ≡ record { reads = other; now = moment; past = before }
+content_of same_reads same_now same_past = rw (same_reads, same_now, same_past) refl

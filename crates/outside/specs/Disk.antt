@@ -9,11 +9,12 @@ pub record Moment : Type 0 where
   pub synced : List ℕ
   pub ranges : List (ℕ × ℕ)
 
--- what is told of a disk's content: the bytes that a read of the whole disk gives, and the moment that decides what a crash may
--- leave
+-- what is told of a disk's content: the bytes that a read of the whole disk gives; the moment that decides what a crash now may
+-- leave; and the moments before it, the newest first, one for each call since that changed what a crash may leave
 pub record Content : Type 0 where
   pub reads : List ℕ
   pub now : Moment
+  pub past : List Moment
 
 -- the place behind the last byte, of so many bytes and of the ranges
 abbrev pub furthest : List (ℕ × ℕ) → ℕ → ℕ
@@ -49,14 +50,17 @@ at_rest bytes = record { synced = bytes; ranges = [] }
 abbrev pub with_range : ℕ → ℕ → Moment → Moment
 with_range at n moment = record { synced = moment.synced; ranges = (at, at + n) ∷ moment.ranges }
 
--- the content of a disk that holds these bytes and was synced
+-- the content of a disk that holds these bytes and was synced, and that no call has changed yet
 abbrev pub content_at_rest : List ℕ → Content
-content_at_rest bytes = record { reads = bytes; now = at_rest bytes }
+content_at_rest bytes = record { reads = bytes; now = at_rest bytes; past = [] }
+
+-- the content at a new moment, at which a read gives these bytes
+abbrev pub at_moment : List ℕ → Moment → Content → Content
+at_moment reads now before = record { reads = reads; now = now; past = before.now ∷ before.past }
 
 -- the content after n bytes at a place count as written, and the front of them stands there
 abbrev pub after_part : ℕ → ℕ → List ℕ → Content → Content
-after_part at n front content =
-    record { reads = overwritten content.reads at front; now = with_range at n content.now }
+after_part at n front content = at_moment (overwritten content.reads at front) (with_range at n content.now) content
 
 -- the content after a piece is written at a place
 abbrev pub after_write : ℕ → List ℕ → Content → Content
@@ -64,11 +68,12 @@ after_write at piece content = after_part at (length piece) piece content
 
 -- the content after a sync that succeeded
 abbrev pub after_sync : Content → Content
-after_sync content = record { reads = content.reads; now = at_rest content.reads }
+after_sync content = at_moment content.reads (at_rest content.reads) content
 
 -- a failed write of n bytes at a place, whose range counts as written: a read gives one of the images after it
 pub record Tears (at n : ℕ) (old new : Content) : Type 0 where
   pub range : new.now ≡ with_range at n old.now
+  pub past : new.past ≡ old.now ∷ old.past
   pub image : IsImage new.now new.reads
 
 -- a failed write of n bytes at a place: it did nothing at all, or its range counts as written

@@ -1,6 +1,7 @@
 -- The definitions that the contracts of this crate cite, one file a thing.
 pub mod working
 pub mod Causes
+pub mod Crashes
 pub mod Disk
 pub mod Envelope
 pub mod Files

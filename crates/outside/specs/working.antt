@@ -1,4 +1,5 @@
 -- What serves contracts of private functions, views of private fields among it, and proofs of the traits' laws.
+pub mod AtRest
 pub mod EnvelopeLaw
 pub mod Count
 pub mod Schedule

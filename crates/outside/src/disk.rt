@@ -1,4 +1,4 @@
-ghost use Rattle.std.specs.Prelude.{◌≡◌, ℕ, ◌^◌, ◌<◌, ◌≤◌, Bool, Option, IsTrue, IfOk, OnOk, OnErr, length};
+ghost use Rattle.std.specs.Prelude.{◌≡◌, ℕ, ◌^◌, ◌<◌, ◌≤◌, Bool, Option, IsTrue, IfOk, OnOk, OnErr, length, slice_index};
 ghost use Rattle.outside.specs.declared.faults.DiskStep.{DiskStep};
 ghost use Rattle.outside.specs.Causes.{HasCause};
 ghost use Rattle.outside.specs.Disk.{Content, IsImage, ReadsAt, after_write, after_sync, FailsWrite, step_after};
@@ -43,7 +43,7 @@ pub trait Disk: Drop {
     /// Writes the piece over what is there, and past the end. After a failure nothing was written, or its range counts as
     /// written and may hold anything.
     fn write_at(&mut self, at: u64, piece: &[u8]) -> Result<(), Failed>
-        requires { IsTrue tells → at ≤ length (content self.old).reads }
+        requires { IsTrue tells → IsTrue (honest self.old) → at ≤ length (content self.old).reads }
         ensures written { IsTrue tells → IsTrue (honest self.old) → OnOk result (content self.new ≡ after_write at piece.now (content self.old)) }
         ensures torn { IsTrue tells → IsTrue (honest self.old) → OnErr result (FailsWrite at (length piece.now) (content self.old) (content self.new)) }
         ensures honest { honest self.new ≡ honest self.old }
@@ -61,6 +61,9 @@ pub trait Disk: Drop {
 
     /// The count is a number of 64 bits.
     ghost faults_fit: { (disk : Self) → faults disk < 2 ^ 64 };
+
+    /// What is told are bytes.
+    ghost reads_bytes: { (disk : Self) → IsTrue tells → (place : ℕ) → slice_index (content disk).reads place < 256 };
 
     /// An honest disk as it reads is one of its images.
     ghost reads_image: { (disk : Self) → IsTrue tells → IsTrue (honest disk) → IsImage (content disk).now (content disk).reads };

@@ -2,13 +2,16 @@
 //! objects in memory for tests, and the first two a thin adapter over the host.
 #![tactic(auto)]
 
+mod call;
 mod count;
 mod disk;
 mod envelope;
 mod faults;
+mod file_disk;
 mod files;
 mod host_files;
 mod host_sink;
+mod laws;
 mod list_envelope;
 mod memory_disk;
 mod memory_files;
@@ -23,9 +26,11 @@ mod tracked_bytes;
 pub use disk::Disk;
 pub use envelope::Envelope;
 pub use faults::{DiskStep, Failed, ReadFail};
+pub use file_disk::FileDisk;
 pub use files::Files;
 pub use host_files::HostFiles;
 pub use host_sink::HostSink;
+pub use laws::earlier_crashes_are_told;
 pub use list_envelope::ListEnvelope;
 pub use memory_disk::MemoryDisk;
 pub use memory_files::MemoryFiles;

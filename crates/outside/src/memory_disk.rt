@@ -12,7 +12,8 @@ use crate::{Disk, DiskStep, Failed};
 use base_bytes::Bytes;
 use std::alloc::Global;
 
-/// A disk that keeps its bytes in memory. A call fails as planned, and a write also where its own growth is refused.
+/// A disk that keeps its bytes in memory, with a record of all calls that changed what a crash may leave. A call fails as planned,
+/// and a write or a sync also where the growth of the bytes or of the record is refused.
 #[derive(Drop)]
 pub struct MemoryDisk {
     alloc: Global,
@@ -69,6 +70,8 @@ impl Disk for MemoryDisk {
     ghost last_step = { disk_last_step };
 
     ghost faults_fit = { λ disk. disk.schedule.faults.fits };
+
+    ghost reads_bytes = { λ disk told. disk.bytes.are_bytes };
 
     ghost reads_image = { λ disk told honest. disk.bytes.image };
 
@@ -146,16 +149,15 @@ impl Disk for MemoryDisk {
         ensures step { disk_last_step self.new ≡ step_after result DiskStep.Sync (disk_last_step self.old) }
         ensures cause { HasCause (disk_plan self.old).faults (disk_plan self.new).faults result }
 
-        // It fails exactly at the planned calls.
-        ensures due { IsErr result ↔ IsDue (disk_plan self.old) }
+        // It fails at the planned calls, and beside these only where the growth of the record is refused.
+        ensures due { IsDue (disk_plan self.old) → IsErr result }
         ensures plan { disk_plan self.new ≡ plan_after result (disk_plan self.old) }
     {
-        if self.schedule.begin() {
+        if self.schedule.begin() || self.bytes.sync().is_err() {
             self.schedule.fail();
             self.last_step = Some(DiskStep::Sync);
             return Err(Failed);
         }
-        self.bytes.sync();
         Ok(())
     }
 }

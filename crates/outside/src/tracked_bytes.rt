@@ -1,18 +1,20 @@
-// Bytes that are written in place, with what the writes since the last sync replaced.
-ghost use Rattle.std.specs.Prelude.{◌≡◌, ◌≤◌, length, reverse, take, drop, OnOk, OnErr};
+// Bytes that are written in place, with a record of all calls and of what each write replaced.
+ghost use Rattle.std.specs.Prelude.{◌≡◌, ℕ, ◌<◌, ◌≤◌, length, slice_index, reverse, take, drop, OnOk, OnErr};
 ghost use Rattle.outside.specs.Disk.{IsImage, overwritten, content_at_rest, after_part, after_sync};
 ghost use Rattle.outside.specs.working.Replaced.{moment_after};
 
+use crate::call::Call;
 use crate::replaced::Replaced;
 use base_bytes::{Bytes, NoMemory};
 use std::alloc::Global;
 
-/// The bytes, and the writes since the last sync, the latest last.
+/// The bytes, and the calls that changed them or what a crash may leave of them, the latest last.
 #[derive(Drop)]
 pub struct TrackedBytes {
     bytes: Vec<u8>,
-    writes: Vec<Replaced>,
-    ghost image: { IsImage (moment_after (reverse writes.items) bytes.items) bytes.items },
+    calls: Vec<Call>,
+    ghost are_bytes: { (place : ℕ) → slice_index bytes.items place < 256 },
+    ghost image: { IsImage (moment_after (reverse calls.items) bytes.items) bytes.items },
 }
 
 // The bytes from this place on, so many or all of fewer.
@@ -36,6 +38,13 @@ fn overwrite(bytes: &mut Vec<u8>, at: usize, piece: &[u8]) -> Result<(), NoMemor
     Ok(())
 }
 
+// That the numbers of a slice are bytes is known where it is passed.
+fn known_bytes(bytes: &[u8])
+    ensures { (place : ℕ) → slice_index bytes.now place < 256 }
+{
+    let _count = bytes.len();
+}
+
 impl TrackedBytes {
     ghost use Rattle.outside.specs.working.Tracked.{tracked_content};
 
@@ -43,9 +52,11 @@ impl TrackedBytes {
     pub fn new(alloc: Global, bytes: Bytes) -> TrackedBytes
         ensures { tracked_content result ≡ content_at_rest bytes }
     {
+        let bytes = bytes.into_vec();
+        known_bytes(&bytes);
         TrackedBytes {
-            bytes: bytes.into_vec(),
-            writes: Vec::new(alloc),
+            bytes,
+            calls: Vec::new(alloc),
         }
     }
 
@@ -69,22 +80,25 @@ impl TrackedBytes {
         ensures err { OnErr result (tracked_content self.new ≡ tracked_content self.old) }
     {
         let under = Bytes::from_slice(alloc, front_at(self.bytes.as_slice(), at, front.len()))?;
-        self.writes.reserve(1)?;
+        self.calls.reserve(1)?;
         overwrite(&mut self.bytes, at, front)?;
+        known_bytes(&self.bytes);
         let write = Replaced {
             at,
             written_length: front.len(),
             under,
             range_length,
         };
-        self.writes.push(write).unwrap();
+        self.calls.push(Call::Wrote(write)).unwrap();
         Ok(())
     }
 
-    /// Forgets what the writes replaced. Takes no memory.
-    pub fn sync(&mut self)
-        ensures { tracked_content self.new ≡ after_sync (tracked_content self.old) }
+    /// Records that all was made sure of. Without memory it does nothing.
+    pub fn sync(&mut self) -> Result<(), NoMemory>
+        ensures ok { OnOk result (tracked_content self.new ≡ after_sync (tracked_content self.old)) }
+        ensures err { OnErr result (tracked_content self.new ≡ tracked_content self.old) }
     {
-        self.writes.clear();
+        self.calls.push(Call::Synced)?;
+        Ok(())
     }
 }

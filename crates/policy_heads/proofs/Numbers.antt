@@ -1,16 +1,16 @@
 -- The numbers that names mean.
-use Rattle.std.proofs.Common.{◌≡◌, ℕ, zero, suc, ◌+◌, ◌<◌, Bool, true, false, ◌||◌, if◌then◌else◌, cond, List, [], ◌∷◌, ◌++◌, length, map, take, get_or, find, position, nat_lt, MatchOption, IfSome, refl, subst, ap, sym, ◌∙◌, arith, Option, Some, None, option_map, true≢false}
+use Rattle.std.proofs.Common.{◌≡◌, ℕ, zero, suc, ◌+◌, ◌<◌, Bool, true, false, not, ◌||◌, if◌then◌else◌, cond, List, [], ◌∷◌, ◌++◌, length, map, take, get_or, find, position, nat_lt, MatchOption, IfSome, refl, subst, ap, sym, ◌∙◌, arith, Option, Some, None, option_map, true≢false, slice_get, ◌==◌}
 use Rattle.std.specs.List.{position_or_len}
-use Rattle.std.specs.Option.{is_some, option_or}
+use Rattle.std.specs.Option.{is_some, option_and_then, option_or}
 use Rattle.std.specs.Str.{bytes_eq}
-use Rattle.std.proofs.lemmas.Bool.{lt-ltb, ltb-true}
+use Rattle.std.proofs.lemmas.Bool.{eq-eqb, eqb-true, lt-ltb, ltb-true}
 use Rattle.std.proofs.lemmas.List.{map-append, take_more}
 use Rattle.std.proofs.lemmas.List.Elements.{filter_map-append}
 use Rattle.std.proofs.lemmas.List.Folds.{list_any-append}
 use Rattle.std.proofs.lemmas.Slice.Eq.{bytes_eq-Decides}
 use Rattle.policy_ast.specs.declared.item.Item.{Item}
 use Rattle.policy_ast.specs.declared.policy.PlacedItem.{PlacedItem}
-use Rattle.policy_rules.specs.Names.{is_among, is_named, name_of, number_named}
+use Rattle.policy_rules.specs.Names.{is_among, is_named, name_of, names_of, number_named}
 use Rattle.policy_rules.specs.Scopes.{let_name, let_names}
 use Rattle.policy_rules.specs.WellTyped.{items_of}
 
@@ -161,3 +161,45 @@ lets_more policy n p q lt is =
     ∙ ap (is_among q) (sym (filter_map-append let_name (items_of (take n policy)) (p.item ∷ [])))
     ∙ ap (λ items. is_among q (let_names items)) (sym (map-append (λ p. p.item) (take n policy) (p ∷ [])))
     ∙ ap (λ all. is_among q (let_names (items_of all))) (ap (λ p. take n policy ++ p ∷ []) is ∙ sym (take_more policy n p lt))
+
+same_later : (k n : ℕ) → (suc k == suc n) ≡ (k == n)
+same_later k n =
+    by_test (k == n)
+    (λ same. let is : suc k ≡ suc n = ap suc (eqb-true k n same) in eq-eqb (suc k) (suc n) is ∙ sym same)
+    (λ other. by_test (suc k == suc n)
+    (λ same. let is : suc k ≡ suc n = eqb-true (suc k) (suc n) same in let holds : (k == n) ≡ true = eq-eqb k n (omega (arith, is)) in absurd (true≢false (sym holds ∙ other)))
+    (λ apart. apart ∙ sym other))
+
+not_zero : (n : ℕ) → (0 == suc n) ≡ false
+not_zero n = by_test (0 == suc n) (λ same. let is : 0 ≡ suc n = eqb-true 0 (suc n) same in absurd (omega (arith, is))) (λ other. other)
+
+-- of an item with a name: whether the first item of that name is this one
+pub first_of_name : (items : List Item) (n : ℕ) (name : List ℕ) → option_and_then name_of (slice_get items n) ≡ Some name → (o : Option ℕ) → number_named items name ≡ o
+    → MatchOption o ⊥ (λ k. (k == n) ≡ not (is_among name (names_of (take n items))))
+first_of_name [] n name has o is = absurd (cc)
+first_of_name (x ∷ items) zero name has o is = subst (λ o. MatchOption o ⊥ (λ k. (k == 0) ≡ true)) (sym at_once ∙ is) refl
+  where
+    own : is_named name x ≡ true
+    own = rw has ((bytes_eq-Decides name name).1 refl)
+
+    at_once : number_named (x ∷ items) name ≡ Some 0
+    at_once = position_first (is_named name) x items ∙ rw own refl
+first_of_name (x ∷ items) (suc n) name has o is = by (is_named name x) refl (number_named items name) refl (first_of_name items n name has (number_named items name) refl)
+  where
+    among_named : (m : Option (List ℕ)) → name_of x ≡ m → is_named name x ≡ true → is_among name (names_of (x ∷ take n items)) ≡ true
+    among_named None at own = let no_name : false ≡ true = rw at at own in absurd (true≢false (sym no_name))
+    among_named (Some m) at own = let same : bytes_eq name m ≡ true = rw at at own in rw (at, same) refl
+
+    among_other : (m : Option (List ℕ)) → name_of x ≡ m → is_named name x ≡ false → is_among name (names_of (x ∷ take n items)) ≡ is_among name (names_of (take n items))
+    among_other None at other = rw at refl
+    among_other (Some m) at other = let differs : bytes_eq name m ≡ false = rw at at other in rw (at, differs) refl
+
+    by : (b : Bool) → is_named name x ≡ b → (p : Option ℕ) → number_named items name ≡ p → MatchOption p ⊥ (λ k. (k == n) ≡ not (is_among name (names_of (take n items))))
+        → MatchOption o ⊥ (λ k. (k == suc n) ≡ not (is_among name (names_of (x ∷ take n items))))
+    by true own p place later =
+        let now : o ≡ Some 0 = sym is ∙ position_first (is_named name) x items ∙ rw own refl in
+        subst (λ o. MatchOption o ⊥ (λ k. (k == suc n) ≡ not (is_among name (names_of (x ∷ take n items))))) (sym now) (rw (among_named (name_of x) refl own) (not_zero n))
+    by false other None place later = absurd later
+    by false other (Some k) place later =
+        let now : o ≡ Some (suc k) = sym is ∙ position_first (is_named name) x items ∙ rw (other, place) refl in
+        subst (λ o. MatchOption o ⊥ (λ k. (k == suc n) ≡ not (is_among name (names_of (x ∷ take n items))))) (sym now) (rw (among_other (name_of x) refl other) (same_later k n ∙ later))

@@ -1,9 +1,10 @@
-ghost use Rattle.std.specs.Prelude.{◌≡◌, ◌||◌, [], ◌∷◌, map, true, false, if◌then◌else◌, option_map, option_and_then, Some, None, IfOk, OnOk, IfSome, ◌<◌, ◌^◌, length, slice_get, ℕ, List};
+ghost use Rattle.std.specs.Prelude.{◌≡◌, ◌||◌, [], ◌∷◌, map, true, false, not, take, if◌then◌else◌, option_map, option_and_then, Some, None, IfOk, OnOk, IfSome, ◌<◌, ◌^◌, length, slice_get, ℕ, List};
 ghost use Rattle.policy_ast.specs.declared.item.Item.{Item};
 ghost use Rattle.std.specs.Option.{is_some, option_copied, option_or};
 ghost use Rattle.base_bytes.specs.Values.{fits_int, fits_text};
-ghost use Rattle.policy_rules.specs.Heads.{enum_named, fact_named, finish_function_named, function_named, is_command, is_effect, let_named, literal_type, names_item, struct_named, type_exists};
-ghost use Rattle.policy_rules.specs.Names.{is_among, is_named, item_named, name_of, number_named};
+ghost use Rattle.policy_rules.specs.Heads.{enum_named, fact_named, finish_function_named, function_named, is_command, is_effect, let_named, literal_type, names_item, struct_named, type_exists, written_fields};
+ghost use Rattle.policy_rules.specs.Types.{declared};
+ghost use Rattle.policy_rules.specs.Names.{is_among, is_named, item_named, name_of, names_of, number_named};
 ghost use Rattle.policy_rules.specs.Scopes.{let_name, let_names};
 ghost use Rattle.policy_rules.specs.WellTyped.{items_of};
 ghost use Rattle.policy_heads.specs.Views.{fact_view, function_view, is_variant};
@@ -44,7 +45,7 @@ impl<'a> Model for Heads<'a> {
 }
 
 /// The name of an item; `use` has none.
-fn name_of(item: &Item) -> Option<&Name>
+pub fn name_of(item: &Item) -> Option<&Name>
     ensures { option_copied result ≡ name_of item.now }
 {
     match item {
@@ -320,5 +321,32 @@ impl<'a> Heads<'a> {
         ensures { (i : Item) → slice_get self.now number ≡ Some i → result.now ≡ kept_fields i }
     {
         self.heads[number].fields()
+    }
+
+    /// The item of this number.
+    pub fn item_at(&self, number: usize) -> &'a Item
+        requires { number < length self.now }
+        ensures { slice_get self.now number ≡ Some result.now }
+    {
+        self.heads[number].item()
+    }
+
+    /// The fields of the item of this number, where it is a struct type.
+    pub fn struct_at(&self, number: usize) -> Option<&[Named]>
+        requires { number < length self.now }
+        ensures { (i : Item) → slice_get self.now number ≡ Some i → option_copied result ≡ option_map declared (written_fields i) }
+    {
+        self.heads[number].struct_fields()
+    }
+
+    /// Whether the item of this number, which has this name, is the first of that name.
+    pub fn is_first(&self, number: usize, name: &Name) -> bool
+        requires { option_and_then name_of (slice_get self.now number) ≡ Some name.now }
+        ensures { result ≡ not (is_among name.now (names_of (take number self.now))) }
+    {
+        match self.number_named(name) {
+            Some(first) => first == number,
+            None => false,
+        }
     }
 }

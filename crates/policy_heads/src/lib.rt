@@ -8,6 +8,6 @@ mod names;
 mod types;
 
 pub use head::{FactHead, FunctionHead};
-pub use heads::Heads;
+pub use heads::{Heads, name_of};
 pub use names::NameSet;
 pub use types::{copy_type, fits, joined, written_type};
