@@ -1,10 +1,7 @@
 -- What is inferred of an expression, by what was inferred of its parts one after the other.
-use Rattle.std.proofs.Common.{◌≡◌, ℕ, List, length, take, Option, Result, refl, sym, ap, subst, ◌∙◌, IfOk}
-use Rattle.policy_ast.specs.declared.expr.Expr.{Expr}
-use Rattle.policy_ast.specs.declared.item.Item.{Item}
-use Rattle.policy_infer.proofs.ScopeFacts.{keeps_same}
+use Rattle.std.proofs.Common.{◌≡◌, ℕ, List, length, take, Option, Result, refl, sym, ap, subst, ◌∙◌}
 use Rattle.policy_infer.specs.declared.refusal.Refusal.{Refusal}
-use Rattle.policy_infer.specs.working.Answers.{Infers, InfersEach, InfersWithin, Judges, Keeps}
+use Rattle.policy_infer.specs.working.Answers.{Infers, InfersEach, InfersWithin, Judges}
 use Rattle.policy_rules.specs.Scopes.{Scope}
 
 module _ {A : Type 0} (found : Scope → Option A) (before : Scope) where

@@ -1,7 +1,6 @@
 -- The values that arms list, as they are kept.
-use Rattle.std.proofs.Common.{◌≡◌, Bool, true, false, ◌&&◌, ◌||◌, List, [], ◌∷◌, map, refl, sym, ap, ◌∙◌}
+use Rattle.std.proofs.Common.{◌≡◌, Bool, ◌||◌, List, [], ◌∷◌, map, refl, ap, ◌∙◌}
 use Rattle.std.specs.List.{list_any}
-use Rattle.policy_ast.specs.declared.pattern.PatternLiteral.{PatternLiteral}
 use Rattle.policy_infer.specs.contracts.pattern_set.ListedPartialEq.TheImpl.{eq-value}
 use Rattle.policy_infer.specs.declared.pattern_set.Listed.{Listed}
 use Rattle.policy_infer.specs.declared.pattern_set.Listed.TheVariants as listed

@@ -1,14 +1,13 @@
 -- Parameters whose names differ, introduced one by one.
-use Rattle.std.proofs.Common.{◌≡◌, ℕ, ◌+◌, ◌<◌, Bool, true, false, not, ◌&&◌, ◌||◌, List, [], ◌∷◌, ◌++◌, length, drop, get_or, map, Option, Some, None, refl, sym, ap, ◌∙◌}
+use Rattle.std.proofs.Common.{◌≡◌, ℕ, ◌+◌, ◌<◌, Bool, true, false, not, ◌||◌, [], ◌∷◌, ◌++◌, length, drop, get_or, None, refl, sym, ap, ◌∙◌}
 use Rattle.std.proofs.lemmas.Bool.{false≢true}
 use Rattle.std.proofs.lemmas.List.{append_assoc}
-use Rattle.std.specs.List.{list_any}
 use Rattle.std.specs.Str.{bytes_eq}
 use Rattle.base_bytes.proofs.Bools.{and_then}
 use Rattle.policy_infer.proofs.FieldFacts.{left_at, same_both}
 use Rattle.policy_rules.specs.FieldLists.{are_distinct}
-use Rattle.policy_rules.specs.Names.{Name, is_among}
-use Rattle.policy_rules.specs.Scopes.{Scope, names_in, type_in, with_name}
+use Rattle.policy_rules.specs.Names.{is_among}
+use Rattle.policy_rules.specs.Scopes.{Scope, names_in, type_in}
 use Rattle.policy_rules.specs.declared.types.Named.{Named}
 
 not_among : (b : Bool) (names : Bool) → not (b || names) ≡ true → (b ≡ false) × (names ≡ false)

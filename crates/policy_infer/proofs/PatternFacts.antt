@@ -1,5 +1,5 @@
 -- The values that arms list, gone through one by one.
-use Rattle.std.proofs.Common.{◌≡◌, ℤ, ℕ, ◌+◌, ◌<◌, Bool, true, false, not, ◌&&◌, ◌||◌, nat_lt, suc, List, [], ◌∷◌, ◌++◌, length, drop, map, refl, sym, ap, ◌∙◌, arith}
+use Rattle.std.proofs.Common.{◌≡◌, ℤ, ℕ, Bool, true, false, not, ◌&&◌, ◌||◌, nat_lt, suc, List, [], ◌∷◌, ◌++◌, length, refl, sym, ap, ◌∙◌, arith}
 use Rattle.std.specs.List.{list_all, list_any}
 use Rattle.std.specs.Ordering.{int_eq}
 use Rattle.std.specs.Str.{bytes_eq}
@@ -10,8 +10,6 @@ use Rattle.policy_ast.specs.declared.literal.Literal.TheVariants as literal
 use Rattle.policy_ast.specs.declared.pattern.ArmPattern.{ArmPattern}
 use Rattle.policy_ast.specs.declared.pattern.PatternLiteral.{PatternLiteral}
 use Rattle.policy_ast.specs.declared.pattern.PatternLiteral.TheVariants as pattern
-use Rattle.policy_ast.specs.declared.statement.Arm.{Arm}
-use Rattle.policy_ast.specs.declared.statement.Stmt.{Stmt}
 use Rattle.policy_infer.proofs.FieldFacts.{grouped, parted, same_both, unset}
 use Rattle.policy_rules.specs.Coverage.{any_is_last, are_distinct_patterns, is_any, same_literal, same_pattern}
 

@@ -1,12 +1,12 @@
 -- Loops over the elements of a list, each of which may have no type.
-use Rattle.std.proofs.Common.{◌≡◌, ℕ, Bool, true, false, ◌+◌, ◌<◌, ◌≤◌, List, [], ◌∷◌, ◌++◌, length, drop, get_or, Option, Some, None, Result, Ok, Err, option_map, refl, sym, ap, subst, ◌∙◌, IfOk, arith}
+use Rattle.std.proofs.Common.{◌≡◌, ℕ, Bool, true, false, ◌+◌, ◌<◌, List, [], ◌∷◌, ◌++◌, length, drop, get_or, Option, Some, None, Result, Ok, Err, option_map, refl, sym, ap, subst, ◌∙◌}
 use Rattle.std.proofs.lemmas.List.{append_assoc, append-nil, length-append}
 use Rattle.std.proofs.Math.Seq.{drop-length}
 use Rattle.policy_ast.specs.declared.expr.Let.{Let}
 use Rattle.policy_ast.specs.declared.expr.Expr.{Expr}
 use Rattle.policy_ast.specs.declared.item.Item.{Item}
 use Rattle.policy_infer.proofs.FieldFacts.{left_at}
-use Rattle.policy_infer.proofs.ScopeFacts.{keeps_all, keeps_both, keeps_same}
+use Rattle.policy_infer.proofs.ScopeFacts.{keeps_all, keeps_both}
 use Rattle.policy_infer.specs.declared.refusal.Refusal.{Refusal}
 use Rattle.policy_infer.specs.declared.refusal.Refusal.TheVariants as refusal
 use Rattle.policy_infer.specs.working.Answers.{Infers, InfersEach, InfersWithin, Judges, Keeps, Leads}

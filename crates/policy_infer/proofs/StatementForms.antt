@@ -1,7 +1,6 @@
 -- The scope behind each form of statement: one equation a form, over names that stay shut.
-use Rattle.std.proofs.Common.{◌≡◌, Bool, true, false, not, ◌&&◌, List, [], ◌∷◌, map, Option, Some, None, option_map, refl, sym, ap, ◌∙◌}
+use Rattle.std.proofs.Common.{◌≡◌, Bool, true, false, not, ◌&&◌, List, [], ◌∷◌, map, Option, Some, None, refl, ap, ◌∙◌}
 use Rattle.std.specs.Option.{is_some}
-use Rattle.policy_ast.specs.declared.bind.Bind.{Bind}
 use Rattle.policy_ast.specs.declared.expr.Expr.{Expr}
 use Rattle.policy_ast.specs.declared.expr.Let.{Let}
 use Rattle.policy_ast.specs.declared.finish.FinishStmt.{FinishStmt}
@@ -12,27 +11,23 @@ use Rattle.policy_ast.specs.declared.statement.Arm.{Arm}
 use Rattle.policy_ast.specs.declared.statement.Else.{Else}
 use Rattle.policy_ast.specs.declared.statement.Else.TheVariants as else_stmt
 use Rattle.policy_ast.specs.declared.statement.IfStmt.{IfStmt}
-use Rattle.policy_ast.specs.declared.statement.Stmt.{Stmt, fold_out-Stmt, map-Stmt, out-Stmt}
+use Rattle.policy_ast.specs.declared.statement.Stmt.{Stmt, fold_out-Stmt, out-Stmt}
 use Rattle.policy_ast.specs.declared.statement.Stmt.TheVariants as stmt
 use Rattle.policy_infer.proofs.FormTypes.{bind_list_same, list_same, pattern_found}
 use Rattle.policy_rules.proofs.Folds.{fold-stmt-Check, fold-stmt-Finish, fold-stmt-If, fold-stmt-Let, fold-stmt-Map, fold-stmt-Match, fold-stmt-Publish, fold-stmt-Return}
 use Rattle.policy_rules.proofs.StatementMaps.{arm_patterns, last_map, map_arm, map_else}
 use Rattle.policy_rules.specs.Coverage.{are_arm_patterns}
-use Rattle.policy_rules.specs.Finish.{are_plain, binds_all_keys, is_plain}
-use Rattle.policy_rules.specs.FieldLists.{arguments_fit, in_any_order, in_declared_order}
-use Rattle.policy_rules.specs.Heads.{FactHead, fact_named, finish_function_named, is_command, is_effect, names_item}
+use Rattle.policy_rules.specs.Heads.{is_command, names_item}
 use Rattle.policy_rules.specs.Names.{Name}
 use Rattle.policy_rules.specs.Scopes.{Scope, may_introduce, with_name}
 use Rattle.policy_rules.specs.Statements.{is_last_layer, may_precede, within_finish}
 use Rattle.policy_rules.specs.Types.{fits}
 use Rattle.policy_rules.specs.declared.context.Context.{Context}
-use Rattle.policy_rules.specs.declared.types.Named.{Named}
-use Rattle.policy_rules.specs.declared.types.NamedType.{NamedType}
 use Rattle.policy_rules.specs.declared.types.NamedType.TheVariants as ty
-use Rattle.policy_rules.specs.working.Inference.{◌>>=◌, is_action_block, is_bool, is_command_block, only_if, struct_of, types_within}
-use Rattle.policy_rules.specs.working.Judging.{Judged, arms_are, behind_layer, block_is, body_is, else_is, finish_stmt_is, finish_stmts_are, holds, is_bool_within, is_pattern_within, judged, judged_layer, keys_bound, precedes, values_bound}
+use Rattle.policy_rules.specs.working.Inference.{◌>>=◌, is_action_block, is_command_block, only_if, struct_of}
+use Rattle.policy_rules.specs.working.Judging.{Judged, arms_are, block_is, else_is, finish_stmt_is, finish_stmts_are, holds, judged, judged_layer, precedes}
 use Rattle.policy_infer.specs.working.Behind.{are_arms, are_stmts, behind, finish_are, finish_is, finishes, is_bool_of, is_else, mapped, matches_of, publishes_of, returns_of}
-use Rattle.policy_infer.specs.working.Types.{bind_types, introduced, pattern_type, type_of, types_of}
+use Rattle.policy_infer.specs.working.Types.{introduced, pattern_type, type_of}
 
 both_in : {A : Type 0} (o : Option A) (f : A → Bool) (b : Bool) (s : Scope) → (o >>= λ x. only_if (f x && b) (Some s)) ≡ only_if (holds o f && b) (Some s)
 both_in None f b s = refl

@@ -4,21 +4,16 @@ use Rattle.std.proofs.Math.Seq.{drop-length}
 use Rattle.std.proofs.lemmas.Bool.Decides.{nat_tests}
 use Rattle.std.proofs.lemmas.List.{length-drop}
 use Rattle.std.specs.Option.{is_some}
-use Rattle.policy_ast.specs.declared.expr.Expr.{Expr}
-use Rattle.policy_ast.specs.declared.expr.Let.{Let}
 use Rattle.policy_ast.specs.declared.item.Item.{Item}
-use Rattle.policy_ast.specs.declared.pattern.Pattern.{Pattern}
 use Rattle.policy_ast.specs.declared.statement.Arm.{Arm}
 use Rattle.policy_ast.specs.declared.statement.Stmt.{Stmt, out-Stmt}
-use Rattle.policy_ast.specs.declared.statement.Stmt.TheVariants as stmt
 use Rattle.policy_infer.proofs.FieldFacts.{left_at}
 use Rattle.policy_infer.proofs.ScopeFacts.{keeps_all, keeps_both, keeps_same}
-use Rattle.policy_infer.proofs.StatementForms as form
 use Rattle.policy_infer.specs.declared.refusal.Refusal.{Refusal}
 use Rattle.policy_infer.specs.declared.refusal.Refusal.TheVariants as refusal
 use Rattle.policy_infer.specs.working.Answers.{Allows, Infers, Judges, Keeps, Leads, LeadsOn, Tests, TestsWithin}
-use Rattle.policy_infer.specs.working.Behind.{are_arms, are_stmts, behind, is_else, mapped}
-use Rattle.policy_infer.specs.working.Types.{introduced, type_of}
+use Rattle.policy_infer.specs.working.Behind.{are_arms, are_stmts, behind}
+use Rattle.policy_infer.specs.working.Types.{introduced}
 use Rattle.policy_rules.specs.Names.{Name}
 use Rattle.policy_rules.specs.Scopes.{Scope}
 use Rattle.policy_rules.specs.Statements.{is_last_layer, may_precede}

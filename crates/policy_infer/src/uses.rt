@@ -151,7 +151,8 @@ pub fn pattern_type(
 pub fn counted(n: &i64, t: Typed) -> Typed
     ensures { (o : Option NamedType) → Judges t o → Judges result (only_if (is_positive n.now) o) }
 {
-    if *n < 1 {
+    let n = *n;
+    if n < 1 {
         return Err(Refusal::IllTyped);
     }
     t

@@ -10,7 +10,6 @@ use Rattle.policy_ast.specs.declared.pattern.Pattern.{Pattern}
 use Rattle.policy_ast.specs.declared.statement.Arm.{Arm}
 use Rattle.policy_ast.specs.declared.statement.Else.{Else}
 use Rattle.policy_ast.specs.declared.statement.Else.TheVariants as else_stmt
-use Rattle.policy_ast.specs.declared.statement.IfStmt.{IfStmt}
 use Rattle.policy_ast.specs.declared.statement.Stmt.{Stmt}
 use Rattle.policy_rules.specs.Coverage.{are_arm_patterns}
 use Rattle.policy_rules.specs.FieldLists.{arguments_fit, in_any_order, in_declared_order}

@@ -1,4 +1,4 @@
-use Rattle.std.proofs.Common.{◌+◌, ◌++◌, ap, drop, map, refl}
+use Rattle.std.proofs.Common.{◌+◌, ap, drop, map, refl}
 use Rattle.policy_infer.proofs.FieldFacts.{left_at}
 use Rattle.policy_infer.proofs.PatternFacts.{none_new, values_turn}
 use Rattle.policy_infer.proofs.coverage.distinct_values.Goals as goal

@@ -1,16 +1,13 @@
-use Rattle.std.proofs.Common.{◌≡◌, ◌∙◌, List, Option, Some, None, length, map, refl, sym, ap, subst, option_map, arith}
+use Rattle.std.proofs.Common.{◌∙◌, Some, None, length, map, refl, sym, ap, option_map, arith}
 use Rattle.std.proofs.lemmas.Result.{err_from_is_err_and}
-use Rattle.policy_ast.specs.declared.expr.ElseExpr.TheVariants as else_expr
 use Rattle.policy_ast.specs.declared.expr.Expr.{Expr}
-use Rattle.policy_ast.specs.declared.expr.Expr.TheVariants as expr
 use Rattle.policy_infer.proofs.Arms.{by_none, by_one, by_three, by_two, each, within}
 use Rattle.policy_infer.proofs.FormTypes.{and_is, calculation_is, call_is, choice_is, compare_is, count_is, exists_is, field_is, foreign_call_is, literal_is, name_is, none_is, or_is, presence_is, query_is, some_is, struct_is, this_is, unary_is}
 use Rattle.policy_infer.proofs.SoFar.{begins, ends, gap_turns, itself, lacks, led, led_on, let_ends, let_stops, stops, turns}
-use Rattle.policy_infer.specs.working.Types.{are_envelopes, bind_types, block_of, gap_type_of, gap_types_of, lets_behind, otherwise_of, type_of, types_of}
+use Rattle.policy_infer.specs.working.Types.{bind_types, gap_type_of, gap_types_of, type_of, types_of}
 use Rattle.policy_rules.specs.Expressions.{count_type, is_positive, value_part}
-use Rattle.policy_rules.specs.Scopes.{Scope}
 use Rattle.policy_rules.specs.declared.types.NamedType.TheVariants as ty
-use Rattle.policy_rules.specs.working.Inference.{calculation_of, call_of, choice_of, compare_of, field_of, is_foreign_call, logic_of, only_if, presence_of, struct_literal_of, unary_of, with_pattern}
+use Rattle.policy_rules.specs.working.Inference.{calculation_of, call_of, choice_of, compare_of, field_of, logic_of, only_if, presence_of, struct_literal_of, unary_of, with_pattern}
 use Rattle.policy_infer.proofs.expressions.+infer.Goals as goal
 
 pub infer-returns-in-Or : goal.infer-returns-in-Or

@@ -1,4 +1,4 @@
-use Rattle.std.proofs.Common.{◌≡◌, ℕ, ◌||◌, List, take, drop, map}
+use Rattle.std.proofs.Common.{◌≡◌, ℕ, ◌||◌, List, drop, map}
 use Rattle.policy_rules.specs.FieldLists.{are_distinct}
 use Rattle.policy_rules.specs.Names.{is_among}
 use Rattle.policy_infer.proofs.FieldFacts.{are_new}

@@ -1,7 +1,5 @@
-use Rattle.std.proofs.Common.{◌∙◌, ap, map, sym}
-use Rattle.policy_ast.specs.declared.bind.Bind.{Bind}
-use Rattle.policy_ast.specs.declared.expr.Expr.{Expr}
-use Rattle.policy_rules.specs.Finish.{are_plain, is_plain}
+use Rattle.std.proofs.Common.{◌∙◌, ap, sym}
+use Rattle.policy_rules.specs.Finish.{is_plain}
 use Rattle.policy_infer.proofs.PlainForms.{plain_struct}
 use Rattle.policy_infer.proofs.plain.+plain.Goals as goal
 

@@ -1,5 +1,4 @@
 use Rattle.std.proofs.Common.{◌∙◌, ◌+◌, ◌-◌, ◌&&◌, ap, drop, length, sym}
-use Rattle.policy_ast.specs.declared.statement.Stmt.{Stmt}
 use Rattle.policy_infer.proofs.ReturnFacts.{arm_turn, last_decides, last_place, match_returns}
 use Rattle.policy_infer.specs.working.Returns.{arms_return}
 use Rattle.policy_rules.specs.Statements.{always_returns}

@@ -1,4 +1,4 @@
-use Rattle.std.proofs.Common.{◌∙◌, map, refl, subst}
+use Rattle.std.proofs.Common.{◌∙◌, refl, subst}
 use Rattle.policy_rules.specs.Expressions.{value_part}
 use Rattle.policy_rules.specs.Scopes.{Scope}
 use Rattle.policy_rules.specs.declared.types.NamedType.TheVariants as ty

@@ -3,13 +3,11 @@ use Rattle.std.proofs.lemmas.Result.{err_from_is_err_and}
 use Rattle.policy_ast.specs.declared.statement.Else.{Else}
 use Rattle.policy_ast.specs.declared.statement.Else.TheVariants as else_stmt
 use Rattle.policy_ast.specs.declared.statement.Stmt.{Stmt}
-use Rattle.policy_ast.specs.declared.statement.Stmt.TheVariants as stmt
 use Rattle.policy_infer.proofs.StatementForms.{check_is, choice_is, finish_block_is, let_is, map_is, match_is, publish_is, return_is}
 use Rattle.policy_infer.proofs.StatementLoops.{arm_stops, arms_begin, arms_end, arms_on, arms_test, as_else, branches_test, by_name, by_test, last_stops, map_fails, map_tests, stmt_stops, stmts_end, through, through_on}
 use Rattle.policy_infer.specs.declared.refusal.Refusal.TheVariants as refusal
 use Rattle.policy_infer.specs.working.Behind.{are_arms, are_stmts, behind, finishes, is_bool_of, is_else, mapped, matches_of, publishes_of, returns_of}
 use Rattle.policy_infer.specs.working.Types.{type_of}
-use Rattle.policy_rules.specs.Scopes.{Scope}
 use Rattle.policy_rules.specs.working.Inference.{only_if}
 use Rattle.std.specs.Prelude.{Some}
 use Rattle.policy_infer.proofs.statements.+judge.Goals as goal
