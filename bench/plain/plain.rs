@@ -5,11 +5,13 @@ mod facts;
 mod graphs;
 mod messages;
 mod tokens;
+mod trees;
+mod types;
 
 use std::env;
 use std::process::ExitCode;
 
-const USAGE: &str = "usage: plain run POLICY SCRIPT, plain read SIZE ROUNDS, plain braid|ancestor SHAPE SIZE ROUNDS, or \
+const USAGE: &str = "usage: plain run POLICY SCRIPT, plain check POLICY, plain read SIZE ROUNDS, plain braid|ancestor SHAPE SIZE ROUNDS, or \
     plain facts query|copy|change ROWS ROUNDS";
 
 fn number<T: std::str::FromStr>(word: &str) -> T {
@@ -21,6 +23,7 @@ fn main() -> ExitCode {
     let words: Vec<&str> = words.iter().map(String::as_str).collect();
     match words[..] {
         ["run", policy, _] => return tokens::read_policy(policy),
+        ["check", policy] => return types::check_policy(policy),
         ["read", size, rounds] => messages::read_responses(number(size), number(rounds)),
         [ask @ ("braid" | "ancestor"), shape, size, rounds] => {
             graphs::ask_graph(ask, shape, number(size), number(rounds))

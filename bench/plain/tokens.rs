@@ -3,7 +3,7 @@
 use std::fs;
 use std::process::ExitCode;
 
-enum Fault {
+pub enum Fault {
     NotUtf8(usize),
     NoFrontMatter,
     WrongVersion(usize),
@@ -11,8 +11,7 @@ enum Fault {
     BadToken(usize),
 }
 
-#[allow(dead_code)]
-enum Kind<'a> {
+pub enum Kind<'a> {
     Word(&'a str),
     Number(i64),
     Text(String),
@@ -20,9 +19,9 @@ enum Kind<'a> {
 }
 
 #[allow(dead_code)]
-struct Token<'a> {
-    kind: Kind<'a>,
-    line: usize,
+pub struct Token<'a> {
+    pub kind: Kind<'a>,
+    pub line: usize,
     start: usize,
     end: usize,
 }
@@ -228,7 +227,7 @@ fn gap(rest: &str) -> Option<usize> {
     }
 }
 
-fn tokens(bytes: &[u8]) -> Result<Vec<Token<'_>>, Fault> {
+pub fn read_tokens(bytes: &[u8]) -> Result<Vec<Token<'_>>, Fault> {
     let line_of = |place: usize| bytes[..place].iter().filter(|byte| **byte == b'\n').count() + 1;
     let document =
         str::from_utf8(bytes).map_err(|error| Fault::NotUtf8(line_of(error.valid_up_to())))?;
@@ -257,20 +256,29 @@ fn tokens(bytes: &[u8]) -> Result<Vec<Token<'_>>, Fault> {
     Ok(tokens)
 }
 
+/// The name of a fault, and its line.
+pub fn told(fault: Fault) -> (&'static str, usize) {
+    match fault {
+        Fault::NotUtf8(line) => ("not utf-8", line),
+        Fault::NoFrontMatter => ("no front matter", 1),
+        Fault::WrongVersion(line) => ("wrong version", line),
+        Fault::OpenBlock(line) => ("open block", line),
+        Fault::BadToken(line) => ("bad token", line),
+    }
+}
+
 /// Prints the fault of a policy, or how many tokens it has.
 pub fn read_policy(policy: &str) -> ExitCode {
     let bytes = fs::read(policy).expect("a policy");
-    let (fault, line) = match tokens(&bytes) {
+    match read_tokens(&bytes) {
         Ok(tokens) => {
             println!("{} tokens", tokens.len());
-            return ExitCode::SUCCESS;
+            ExitCode::SUCCESS
         }
-        Err(Fault::NotUtf8(line)) => ("not utf-8", line),
-        Err(Fault::NoFrontMatter) => ("no front matter", 1),
-        Err(Fault::WrongVersion(line)) => ("wrong version", line),
-        Err(Fault::OpenBlock(line)) => ("open block", line),
-        Err(Fault::BadToken(line)) => ("bad token", line),
-    };
-    println!("policy refused: {fault}, line {line}");
-    ExitCode::FAILURE
+        Err(fault) => {
+            let (fault, line) = told(fault);
+            println!("policy refused: {fault}, line {line}");
+            ExitCode::FAILURE
+        }
+    }
 }

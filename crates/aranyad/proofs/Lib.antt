@@ -15,3 +15,18 @@ pub mod Runs
 pub mod Readings
 pub mod Following
 pub mod OneOutcome
+pub mod SmallTrees
+pub mod SmallHeads
+pub mod SmallTypes
+pub mod SmallKinds
+pub mod SmallChains
+pub mod SmallNames
+pub mod SmallTyped
+pub mod SmallRows
+pub mod SmallPlaces
+pub mod SmallMeaning
+pub mod SmallBlocks
+pub mod SmallActions
+pub mod SmallPayloads
+pub mod SmallCommands
+mod InstanceRows

@@ -10,3 +10,4 @@ pub mod Meaning
 pub mod Acting
 pub mod Running
 pub mod Making
+pub mod Instances

@@ -4,6 +4,7 @@ pub mod acted;
 pub mod acting;
 pub mod facts;
 mod index;
+pub mod instances;
 pub mod lines;
 pub mod lookup;
 pub mod making;

@@ -1,4 +1,4 @@
-//! Tests of the policy language: what no contract says, against values worked out by hand.
+//! Tests of the policy language: what no contract says, against values worked out by hand. Other crates of tests take whole policies and a `Page` from here.
 #![tactic(auto)]
 
 #[cfg(test)]
@@ -7,8 +7,8 @@ mod documents;
 mod examples;
 #[cfg(test)]
 mod heights;
-#[cfg(test)]
 mod page;
+pub mod policies;
 #[cfg(test)]
 mod read;
 #[cfg(test)]
@@ -29,3 +29,5 @@ mod syntax_faults;
 mod token_forms;
 #[cfg(test)]
 mod trees;
+
+pub use page::Page;

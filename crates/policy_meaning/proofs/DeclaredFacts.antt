@@ -17,7 +17,8 @@ use Rattle.base_bytes.specs.declared.value.Value.{Value, out-Value, map-Value, f
 use Rattle.base_bytes.specs.declared.value.Value.TheOpen.{Value-F}
 use Rattle.policy_ast.specs.declared.item.Item.{Item}
 use Rattle.policy_ast.specs.declared.item.Item.TheVariants as item
-use Rattle.policy_meaning.specs.Commands.{command_number, fields_of}
+use Rattle.policy_meaning.specs.Commands.{command_number}
+use Rattle.policy_meaning.specs.working.Payloads.{fields_of}
 use Rattle.policy_meaning.specs.Typed.{holds_at, is_command_of}
 use Rattle.policy_meaning.specs.Values.{struct_layer}
 use Rattle.policy_rules.specs.Heads.{is_command, names_item}
@@ -52,11 +53,11 @@ decoded_typed shapes t bytes (Ok None) is = tt
 decoded_typed shapes t bytes (Err e) is = tt
 
 -- the item that a name means stands at the number that it means
-number_is : (b : Bool) (k n : ℕ) → cond b (Some k) None ≡ Some n → k ≡ n
+pub number_is : (b : Bool) (k n : ℕ) → cond b (Some k) None ≡ Some n → k ≡ n
 number_is true k n is = cc
 number_is false k n is = absurd (cc)
 
-named_at : (items : List Item) (name : Name) (n : ℕ) → number_named items name ≡ Some n → item_named items name ≡ slice_get items n
+pub named_at : (items : List Item) (name : Name) (n : ℕ) → number_named items name ≡ Some n → item_named items name ≡ slice_get items n
 named_at items name n is =
     find_at (is_named name) items ∙ ap (slice_get items) (number_is (nat_lt (position_or_len (is_named name) items) (length items)) (position_or_len (is_named name) items) n is)
 

@@ -1,11 +1,9 @@
 -- The call that a command of the graph is, and what it makes of the facts by its policy and recall blocks.
-use Rattle.std.specs.Prelude.{ℕ, if◌then◌else◌, List, length, Option, Some, None, option_map, option_and_then}
-use Rattle.base_bytes.specs.Reading.{ended}
-use Rattle.base_bytes.specs.declared.shapes.Shapes.{Shapes}
-use Rattle.base_bytes.specs.declared.ty.Ty.{Ty}
+use Rattle.std.specs.Prelude.{◌≡◌, ℕ, if◌then◌else◌, List, Option, Some, None, option_map, option_and_then}
+use Rattle.base_bytes.specs.Payload.{IsPayload}
 use Rattle.base_bytes.specs.declared.ty.Ty.TheVariants as ty
 use Rattle.base_bytes.specs.declared.value.Value.{Value}
-use Rattle.base_bytes.specs.working.Decoding.{value_at}
+use Rattle.base_bytes.specs.declared.value.Value.TheVariants as value
 use Rattle.command.specs.Wire.{command_id}
 use Rattle.command.specs.declared.command.Command.{Command}
 use Rattle.command.specs.declared.command.Command.TheVariants as command
@@ -14,9 +12,9 @@ use Rattle.policy_ast.specs.declared.item.Item.{Item}
 use Rattle.policy_ast.specs.declared.policy.PlacedItem.{PlacedItem}
 use Rattle.policy_meaning.specs.Applying.{Ended, Passes, Checks, Faults}
 use Rattle.policy_meaning.specs.Blocks.{policy_block, recall_block}
-use Rattle.policy_meaning.specs.Values.{struct_parts}
 use Rattle.policy_meaning.specs.declared.call.Call.{Call}
 use Rattle.policy_meaning.specs.declared.effect.Effect.{Effect}
+use Rattle.policy_meaning.specs.working.Payloads.{payload_fields}
 use Rattle.policy_rules.specs.Heads.{is_command, names_item}
 use Rattle.policy_rules.specs.Names.{Name, number_named}
 use Rattle.policy_rules.specs.Shapes.{shapes_of}
@@ -38,24 +36,34 @@ content_of (command.Merge left right) = None
 abbrev pub command_number : List Item → Name → Option ℕ
 command_number items name = if names_item is_command items name then number_named items name else None
 
--- The value of a type that is read of all of the bytes. It is the one whose spelling they are, where there is one.
-abbrev pub read_value : Shapes → Ty → List ℕ → Option Value
-read_value shapes t bytes = option_and_then ended (value_at shapes (length shapes.items) t bytes)
+-- The payload spells these values, as the fields of the struct of this number.
+abbrev pub AreSpelled : List Item → ℕ → List Value → List ℕ → Type 0
+AreSpelled items number fields payload = IsPayload (shapes_of items) (ty.Struct number) (value.Struct number fields) payload
 
-abbrev pub fields_of : Value → Option (List Value)
-fields_of v = option_map (λ parts. parts.1) (struct_parts v)
+-- The call that a command of this id and content is: that of the command of its name, with the values that its payload spells. It is none where the
+-- policy declares no command of the name, or where the payload spells no values of its fields.
+pub data IsCallBy (items : List Item) (id : List ℕ) (content : Content) : Option Call → Type 0 where
+  called : {number : ℕ} {fields : List Value} → command_number items content.name ≡ Some number → AreSpelled items number fields content.payload
+      → IsCallBy items id content (Some (record { command = number; fields = fields; author = content.author; id = id }))
+  not_declared : command_number items content.name ≡ None → IsCallBy items id content None
+  not_spelled : {number : ℕ} → command_number items content.name ≡ Some number → ((fields : List Value) → AreSpelled items number fields content.payload → ⊥) → IsCallBy items id content None
 
--- The fields of the struct of this number whose spelling the payload is.
-abbrev pub payload_fields : List Item → ℕ → List ℕ → Option (List Value)
-payload_fields items number payload = option_and_then fields_of (read_value (shapes_of items) (ty.Struct number) payload)
+-- The same of a command; a merge has no content, and is no call.
+abbrev pub IsCallOfContent : List Item → List ℕ → Option Content → Option Call → Type 0
+IsCallOfContent items id None o = o ≡ None
+IsCallOfContent items id (Some content) o = IsCallBy items id content o
 
+abbrev pub IsCallOf : List PlacedItem → Command → Option Call → Type 0
+IsCallOf policy c o = IsCallOfContent (items_of policy) (command_id c) (content_of c) o
+
+-- That call, as it is found: the payload is read.
 abbrev pub call_by : List Item → List ℕ → Content → Option Call
 call_by items id content =
     option_and_then
     (λ number. option_map (λ fields. record { command = number; fields = fields; author = content.author; id = id }) (payload_fields items number content.payload))
     (command_number items content.name)
 
--- The call that a command is. It is none where the policy doesn't declare the name, or where the payload is no value of the fields.
+-- The one call that a command is, or none, as `IsCallOf` says.
 unfoldable pub call_of : List PlacedItem → Command → Option Call
 call_of policy c = option_and_then (call_by (items_of policy) (command_id c)) (content_of c)
 

@@ -12,7 +12,7 @@ use Rattle.policy_ast.specs.declared.item.Item.TheVariants as item
 use Rattle.policy_meaning.specs.Environments.{Env, bound, bound_parameters}
 use Rattle.policy_meaning.specs.Expressions.{Meaning}
 use Rattle.policy_meaning.specs.Outcomes.{Out, Done, Ends, Stuck, ◌>>=◌, all_in_order, or_stuck, with_turn}
-use Rattle.policy_meaning.specs.Patterns.{wanted_in}
+use Rattle.policy_meaning.specs.Patterns.{by_keys, wanted_in}
 use Rattle.policy_meaning.specs.Values.{in_order, struct_parts}
 use Rattle.policy_meaning.specs.declared.effect.Effect.{Effect}
 use Rattle.policy_rules.specs.Heads.{FactHead, fact_named}
@@ -45,14 +45,17 @@ fact_values head given = in_order (names_in head.values) given
 
 abbrev pub create_of : List Item → Name → List Value → Env → Option Change
 create_of items fact keys given =
-    option_and_then (λ number. option_and_then (λ head. option_map (λ values. Create (record { fact = number; keys = keys; values = values })) (fact_values head given)) (fact_named items fact))
+    option_and_then
+    (λ number. option_and_then
+    (λ head. option_and_then (λ values. by_keys keys (Create (record { fact = number; keys = keys; values = values }))) (fact_values head given))
+    (fact_named items fact))
     (number_named items fact)
 
 abbrev pub update_of : List Item → Name → Wanted → Env → Option Change
 update_of items fact old given = option_and_then (λ head. option_map (Update old) (fact_values head given)) (fact_named items fact)
 
 abbrev pub delete_of : List Item → Name → List Value → Option Change
-delete_of items fact keys = option_map (λ number. Delete number keys) (number_named items fact)
+delete_of items fact keys = option_and_then (λ number. by_keys keys (Delete number keys)) (number_named items fact)
 
 abbrev pub emit_of : Value → Option Change
 emit_of v = option_map (λ parts. Emit (record { effect = parts.0; fields = parts.1 })) (struct_parts v)

@@ -15,3 +15,5 @@ pub mod Actions
 pub mod Desks
 pub mod Commands
 pub mod Resolving
+pub mod Laws
+pub mod working

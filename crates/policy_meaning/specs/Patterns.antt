@@ -1,7 +1,8 @@
 -- The rows that a pattern asks for, once its expressions have values; and rows as values.
-use Rattle.std.specs.Prelude.{ℕ, List, [], ◌∷◌, ◌++◌, map, Option, Some, None, option_map, option_and_then}
+use Rattle.std.specs.Prelude.{ℕ, if◌then◌else◌, List, [], ◌∷◌, ◌++◌, map, Option, Some, None, option_map, option_and_then}
 use Rattle.base_bytes.specs.declared.value.Value.{Value}
 use Rattle.base_bytes.specs.declared.value.Value.TheVariants as value
+use Rattle.fact_store.specs.Rows.{are_keys}
 use Rattle.fact_store.specs.declared.row.Row.{Row}
 use Rattle.fact_store.specs.declared.wanted.Wanted.{Wanted}
 use Rattle.policy_ast.specs.declared.expr.Expr.{Expr}
@@ -37,12 +38,16 @@ named_values (name ∷ names) [] = []
 named_values (name ∷ names) (None ∷ values) = named_values names values
 named_values (name ∷ names) (Some v ∷ values) = record { name = name; value = v } ∷ named_values names values
 
+-- Something, where these values may be keys. Nothing else is done with values that can be no keys, as no well-typed tree asks for.
+abbrev pub by_keys : {A : Type 0} → List Value → A → Option A
+by_keys keys x = if are_keys keys then Some x else None
+
 -- What a pattern asks for: a leading part of the keys, and of each value field in declared order its named value or none.
 abbrev pub wanted_of : List Item → Name → List (Option Value) → List Name → List (Option Value) → Option Wanted
 wanted_of items fact keys value_names values =
     option_and_then
-    (λ number. option_map
-    (λ head. record { fact = number; keys = before_gap keys; values = map (value_in (named_values value_names values)) (names_in head.values) })
+    (λ number. option_and_then
+    (λ head. by_keys (before_gap keys) (record { fact = number; keys = before_gap keys; values = map (value_in (named_values value_names values)) (names_in head.values) }))
     (fact_named items fact))
     (number_named items fact)
 

@@ -5,14 +5,15 @@ ghost use Rattle.base_bytes.specs.Reaching.{NoneReachesItself};
 ghost use Rattle.base_bytes.specs.Values.{are_fields, has_type, shape_at};
 ghost use Rattle.base_bytes.specs.declared.ty.Ty.TheVariants as ty;
 ghost use Rattle.command.specs.Wire.{IsInForm};
-ghost use Rattle.policy_meaning.specs.Commands.{call_by, call_of, command_number, fields_of, payload_fields, read_value};
+ghost use Rattle.policy_meaning.specs.Commands.{IsCallBy, IsCallOf, call_by, call_of, command_number};
+ghost use Rattle.policy_meaning.specs.working.Payloads.{fields_of, payload_fields, read_value};
 ghost use Rattle.policy_meaning.specs.Typed.{IsCommandOf, holds_at, is_command_of};
 ghost use Rattle.policy_rules.specs.Shapes.{shapes_of};
 ghost use Rattle.policy_rules.specs.WellTyped.{items_of};
 
 use crate::Call;
 use crate::names::{item_named, number_named};
-use base_bytes::{Bytes, Id, NoMemory, Shapes, Text, Ty, Value, Values, decode_value};
+use base_bytes::{Id, NoMemory, Shapes, Text, Ty, Value, Values, decode_value};
 use command::{Command, id_of};
 use policy_ast::{Item, PlacedItem, Policy};
 use std::alloc::Global;
@@ -29,6 +30,7 @@ pub fn call_of(
     requires shapes { shapes.now ≡ shapes_of (items_of policy.now) }
     requires finite { NoneReachesItself shapes.now }
     requires formed { IsInForm command.now }
+    ensures is_call { IfOk result (IsCallOf policy.now command.now) }
     ensures call { IfOk result (λ call. call ≡ call_of policy.now command.now) }
     ensures declared { IfOk result (λ o. IfSome o (λ call. IsCommandOf policy.now call.command call.fields)) }
 {
@@ -44,7 +46,7 @@ pub fn call_of(
             shapes,
             id_of(command),
             name,
-            payload,
+            payload.as_slice(),
             *author,
         ),
         Command::Basic {
@@ -58,7 +60,7 @@ pub fn call_of(
             shapes,
             id_of(command),
             name,
-            payload,
+            payload.as_slice(),
             *author,
         ),
         Command::Finalize {
@@ -72,7 +74,7 @@ pub fn call_of(
             shapes,
             id_of(command),
             name,
-            payload,
+            payload.as_slice(),
             *author,
         ),
         Command::Merge { .. } => Ok(None),
@@ -85,17 +87,18 @@ fn call_by(
     shapes: &Shapes,
     id: Id,
     name: &Text,
-    payload: &Bytes,
+    payload: &[u8],
     author: Id,
 ) -> Result<Option<Call>, NoMemory>
     requires few { length items.now < 2 ^ 32 }
     requires shapes { shapes.now ≡ shapes_of (items_of items.now) }
     requires finite { NoneReachesItself shapes.now }
+    ensures is_call { IfOk result (IsCallBy (items_of items.now) id (record { name = name.now; payload = payload.now; author = author })) }
     ensures call { IfOk result (λ call. call ≡ call_by (items_of items.now) id record { name = name.now; payload = payload.now; author = author }) }
     ensures declared { IfOk result (λ o. IfSome o (λ call. IsTrue (holds_at (items_of items.now) call.command (is_command_of (items_of items.now) call.fields)))) }
 {
     match command_number(items, name.as_slice()) {
-        Some(command) => match payload_fields(alloc, shapes, command, payload.as_slice())? {
+        Some(command) => match payload_fields(alloc, shapes, command, payload)? {
             Some(fields) => Ok(Some(Call {
                 command,
                 fields,

@@ -7,7 +7,11 @@ mod calls;
 mod desk;
 mod effect;
 mod ends;
+mod given;
+pub mod laws;
 mod names;
+mod plain;
+mod resolving;
 mod runner;
 mod shaping;
 
@@ -16,5 +20,6 @@ pub use calls::call_of;
 pub use desk::Desk;
 pub use effect::{Effect, Effects};
 pub use ends::{ActionEnd, FaultKind, Posted, Verdict, Why};
+pub use resolving::{resolve, resolve_by_shapes};
 pub use runner::Runner;
 pub use shaping::shapes;

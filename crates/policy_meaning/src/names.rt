@@ -25,7 +25,7 @@ fn name_of(item: &Item) -> Option<&Name>
     }
 }
 
-fn is_named(item: &Item, name: &[u8]) -> bool
+pub fn is_named(item: &Item, name: &[u8]) -> bool
     ensures { result ≡ is_named name.now item.now }
 {
     match name_of(item) {

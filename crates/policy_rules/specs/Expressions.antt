@@ -1,6 +1,7 @@
 -- The types of expressions: one rule for each form, and the same for the patterns, the blocks and the lists that stand in them.
 use Rattle.std.specs.Prelude.{◌≡◌, ℤ, pos, negsuc, Bool, true, false, ◌&&◌, ◌||◌, nat_le, List, [], ◌∷◌, codes, map, unwrap_or, Option, Some, None}
 use Rattle.std.specs.Str.{bytes_eq}
+use Rattle.base_bytes.specs.Values.{fits_int}
 use Rattle.policy_ast.specs.declared.bind.Bind.{Bind}
 use Rattle.policy_ast.specs.declared.expr.Arithmetic.{Arithmetic}
 use Rattle.policy_ast.specs.declared.expr.Arithmetic.TheVariants as arithmetic
@@ -51,9 +52,9 @@ abbrev pub count_type : Count → NamedType
 count_type count.CountUpTo = ty.Int
 count_type other = ty.Bool
 
--- At least 1.
+-- At least 1, and a number of 64 bits.
 abbrev pub is_positive : ℤ → Bool
-is_positive (pos n) = nat_le 1 n
+is_positive (pos n) = nat_le 1 n && fits_int (pos n)
 is_positive (negsuc n) = false
 
 -- `envelope::author_id` and `envelope::command_id`.

@@ -1,9 +1,8 @@
 use Rattle.std.proofs.Common.{◌≡◌, ◌++◌, drop, map}
 use Rattle.policy_rules.specs.Shapes.{field_value_types}
-use Rattle.policy_rules.specs.WellTyped.{items_of}
 use Rattle.policy_meaning.proofs.shaping.push_effect_types.Given as goal
 
 abbrev pub invariant-loop-field : goal.invariant-loop-field
 invariant-loop-field l =
-    l.types ++ field_value_types (items_of l.items) (map (λ f. f.field) (drop l.field-index l.fields))
-    ≡ l.initial.types ++ field_value_types (items_of l.items) (map (λ f. f.field) l.fields)
+    l.types ++ field_value_types l.heads (map (λ f. f.field) (drop l.field-index l.fields))
+    ≡ l.initial.types ++ field_value_types l.heads (map (λ f. f.field) l.fields)

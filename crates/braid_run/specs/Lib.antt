@@ -1,0 +1,10 @@
+-- The definitions that the contracts of this crate cite, in the order in which they are read.
+pub mod EntryLists
+pub mod Runs
+pub mod RunOf
+pub mod Places
+pub mod States
+pub mod Soundness
+pub mod Batches
+pub mod Published
+pub mod Laws

@@ -1,0 +1,84 @@
+//! The laws of runs, over the definitions alone. These functions do nothing; their contracts are the laws.
+
+ghost use Rattle.std.specs.Prelude.{◌≡◌, ◌<◌, ℕ, true, List, [], ◌∷◌, ◌++◌, length, Option};
+ghost use Rattle.std.specs.List.{All, Contains};
+ghost use Rattle.braid.specs.Agreeing.{Agree};
+ghost use Rattle.braid_run.specs.Batches.{AreChanges, Change, all_followed, commands_behind};
+ghost use Rattle.braid_run.specs.Laws.{HasOneRun, HasPlace, HasTip, HaveOneRun, PlaceStays, StaysFinal};
+ghost use Rattle.braid_run.specs.Places.{AreAtPlace};
+ghost use Rattle.braid_run.specs.Published.{ArePublished, IsBehindAll, gone_on};
+ghost use Rattle.braid_run.specs.RunOf.{AreEntriesOf, IsRunOf};
+ghost use Rattle.braid_run.specs.Soundness.{AreLawful, GoesOn, IsLawful, IsSound, Terms};
+ghost use Rattle.braid_run.specs.States.{Held, IsStanding, MayFollow, extended};
+ghost use Rattle.braid_run.specs.declared.entry.Entry.{Entry};
+ghost use Rattle.command.specs.Ancestors.{AreInLine, heads};
+ghost use Rattle.command.specs.Closed.{IsClosed, IsHeld};
+ghost use Rattle.command.specs.Kinds.{is_finalize, parents_of};
+ghost use Rattle.command.specs.declared.command.Command.{Command};
+ghost use Rattle.fact_store.specs.declared.row.Row.{Row};
+ghost use Rattle.policy_ast.specs.declared.policy.PlacedItem.{PlacedItem};
+
+/// A closed list of commands has one run: there are facts and entries, and no others.
+pub fn lists_have_one_run()
+    ensures { (policy : List PlacedItem) (commands : List Command) → IsClosed commands → HasOneRun policy commands }
+{}
+
+/// Convergence: closed lists that agree have equal facts and equal entries under one policy, whatever their merges and the orders in which they stand.
+pub fn convergence()
+    ensures { (policy : List PlacedItem) (one other : List Command) → IsClosed one → IsClosed other → Agree one other → HaveOneRun policy one other }
+{}
+
+/// Finality: what stands up to a finalize stays. Its closure's braid and entries begin those of the list, and of each longer list whose finalize
+/// commands are in line.
+pub fn finality()
+    ensures here { (policy : List PlacedItem) (commands : List Command) (f : Command) → IsClosed commands → AreInLine commands → Contains commands f → is_finalize f ≡ true
+        → StaysFinal policy commands commands f }
+    ensures later { (policy : List PlacedItem) (commands more : List Command) (f : Command) → IsClosed (commands ++ more) → AreInLine (commands ++ more) → Contains commands f
+        → is_finalize f ≡ true → StaysFinal policy commands (commands ++ more) f }
+{}
+
+/// Batches: a reader that has the entries of a list, and then follows the batch of each change, has after each of them the entries of what is held.
+pub fn batches()
+    ensures { (policy : List PlacedItem) (commands : List Command) (entries : List Entry) (changes : List Change) → IsClosed commands → AreEntriesOf policy commands entries
+        → AreChanges policy commands changes → AreEntriesOf policy (commands_behind commands changes) (all_followed entries changes) }
+{}
+
+/// Each command, held or not, has facts at its place and no others. Where its parents are held, an append leaves them.
+pub fn commands_have_places()
+    ensures place { (policy : List PlacedItem) (commands : List Command) (command : Command) → IsClosed commands → HasPlace policy commands command }
+    ensures stays { (policy : List PlacedItem) (commands : List Command) (command : Command) → ((id : List ℕ) → Contains (parents_of command) id → IsHeld commands id)
+        → PlaceStays policy commands command }
+{}
+
+/// Where a command may be added to what stands, what is held then stands.
+pub fn additions_stand()
+    ensures { (graph_id : Option (List ℕ)) (commands : List Command) (command : Command) → IsStanding graph_id commands → MayFollow graph_id commands command
+        → IsStanding graph_id (commands ++ command ∷ []) }
+{}
+
+/// A sound state stays sound where lawful commands are added with the entries and the facts of the new run. A command that is lawful where it stands
+/// stays so.
+pub fn extensions_stay_sound()
+    ensures lawful { (terms : Terms) (commands more : List Command) (command : Command) → IsClosed (commands ++ more)
+        → ((id : List ℕ) → Contains (parents_of command) id → IsHeld commands id) → IsLawful terms commands command → IsLawful terms (commands ++ more) command }
+    ensures state { (terms : Terms) (held : Held) (more : List Command) (cut : ℕ) (rows : List Row) (entries : List Entry) → IsStanding held.graph_id (held.commands ++ more)
+        → IsSound terms held → GoesOn terms held.commands more cut rows entries → IsSound terms (extended held more cut rows entries) }
+{}
+
+/// The heads of a list are places of it, as the tips of a run have to be.
+pub fn heads_are_places()
+    ensures { (commands : List Command) → All (λ place. place < length commands) (heads commands) }
+{}
+
+/// Commands that are published run last: the run of all goes on from the facts and the entries held, and merges change nothing. Each is published
+/// over the facts at its place, which are the facts held by then. So lawful ones keep a sound state sound, with all its entries as they are.
+pub fn published_commands_run_last()
+    ensures run { (policy : List PlacedItem) (commands more : List Command) (rows : List Row) (entries : List Entry) → IsClosed (commands ++ more) → ArePublished commands more
+        → IsRunOf policy commands rows entries → IsRunOf policy (commands ++ more) (gone_on policy rows entries more).rows (gone_on policy rows entries more).entries }
+    ensures place { (policy : List PlacedItem) (commands : List Command) (command : Command) (rows others : List Row) (entries : List Entry) → IsClosed commands
+        → IsBehindAll commands command → IsRunOf policy commands rows entries → AreAtPlace policy commands command others → others ≡ rows }
+    ensures sound { (terms : Terms) (held : Held) (more : List Command) → IsClosed (held.commands ++ more) → ArePublished held.commands more → IsSound terms held
+        → AreLawful terms (held.commands ++ more) more
+        → GoesOn terms held.commands more (length held.entries) (gone_on terms.policy held.rows [] more).rows (gone_on terms.policy held.rows [] more).entries }
+    ensures tip { (commands : List Command) → IsClosed commands → HasTip commands }
+{}

@@ -1,0 +1,13 @@
+//! Running a braid by a policy; what a replica keeps of its graph; and the laws that its users rely on.
+#![tactic(auto)]
+
+mod entries;
+mod entry;
+pub mod laws;
+mod running;
+mod state;
+
+pub use entries::Entries;
+pub use entry::{Entry, Outcome};
+pub use running::{Ran, run_all};
+pub use state::State;

@@ -1,0 +1,3 @@
+mod Gathering
+mod Forms
+mod Steps

@@ -1,0 +1,3 @@
+-- What the two limits are shown by.
+pub mod Gathering
+pub mod Rounds

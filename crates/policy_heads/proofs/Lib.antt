@@ -1,0 +1,3 @@
+mod NameSets
+mod Loops
+mod Numbers

@@ -1,0 +1,2 @@
+-- What the look-ups are shown by.
+pub mod Kept

@@ -1,0 +1,2 @@
+-- What the code is shown by.
+pub mod Kinds

@@ -1,0 +1,3 @@
+-- What the bodies of this crate's calls go by; private contracts alone cite it.
+pub mod Payloads
+pub mod Resolutions

@@ -1,0 +1,16 @@
+mod Options
+mod RunLaws
+mod MarkLaws
+mod ListLaws
+mod TokenLaws
+mod Ends
+mod ArgumentFacts
+mod ArgumentLaws
+mod LineLaws
+mod ScriptLaws
+mod NameTexts
+mod Drops
+mod DigitRuns
+mod Turns
+mod NextLines
+mod Readings
