@@ -42,7 +42,7 @@ pub fn open_at(rt: &HostRuntime, path: &str) -> io::Result<Held> {
     })
 }
 
-/// Reads the file at this path in pieces, and answers how many bytes it has.
+/// Reads the file at this path in pieces, one over the other, and answers how many bytes it has.
 pub fn scan_at(rt: &HostRuntime, path: &str) -> io::Result<u64> {
     let mut disk = disk_at(rt, path)?;
     let mut piece = vec![in rt.alloc(); 0u8; PIECE]?;
@@ -55,4 +55,21 @@ pub fn scan_at(rt: &HostRuntime, path: &str) -> io::Result<u64> {
         }
     }
     Ok(place)
+}
+
+/// Reads the file at this path in pieces and keeps them all, and answers how many there are.
+pub fn keep_at(rt: &HostRuntime, path: &str) -> io::Result<usize> {
+    let mut disk = disk_at(rt, path)?;
+    let mut pieces = Vec::new(rt.alloc());
+    let mut place = 0u64;
+    for _ in 0..u64::MAX {
+        let mut piece = vec![in rt.alloc(); 0u8; PIECE]?;
+        match disk.read_at(place, piece.as_mut_slice()) {
+            Ok(0) => break,
+            Ok(count) => place = place.saturating_add(count as u64),
+            Err(_) => return Err(Error::from(ErrorKind::InvalidData)),
+        }
+        pieces.push(piece)?;
+    }
+    Ok(pieces.len())
 }

@@ -1,7 +1,6 @@
 //! Calls that no command of the program reaches, made often: the scripts in `bench/` take the time. `benches read SIZE ROUNDS`,
 //! `benches braid SHAPE SIZE ROUNDS` and `benches write ROUNDS` make one call so many times; `benches open FILE` opens a journal, and
-//! `benches scan FILE` reads its file; without words each call is made a few
-//! times.
+//! `benches scan FILE` and `benches keep FILE` read its file; without words each call is made a few times.
 #![tactic(auto)]
 
 mod disk;
@@ -11,7 +10,7 @@ mod responses;
 
 use crate::disk::write_at_end;
 use crate::graphs::{Ask, Shape, run as run_graph};
-use crate::journals::{open_at, scan_at};
+use crate::journals::{keep_at, open_at, scan_at};
 use crate::responses::{Call, Size, run};
 use base_bytes::NoMemory;
 use std::{env, fs, io};
@@ -118,7 +117,7 @@ fn report_disk(rt: &HostRuntime, rounds: u32) -> io::Result<()> {
 
 fn usage(rt: &HostRuntime) -> io::Result<()> {
     println!(rt;
-        "usage: benches read|copy 4096|100 ROUNDS, or benches braid|ancestor strands|chain|diamonds|writers SIZE ROUNDS, or benches write ROUNDS, or benches open|scan FILE"
+        "usage: benches read|copy 4096|100 ROUNDS, or benches braid|ancestor strands|chain|diamonds|writers SIZE ROUNDS, or benches write ROUNDS, or benches open|scan|keep FILE"
     )
 }
 
@@ -162,12 +161,18 @@ fn report_scan(rt: &HostRuntime, path: &str) -> io::Result<()> {
     println!(rt; "scan: {bytes} bytes")
 }
 
+fn report_keep(rt: &HostRuntime, path: &str) -> io::Result<()> {
+    let pieces = keep_at(rt, path)?;
+    println!(rt; "keep: {pieces} pieces")
+}
+
 // A journal in a file of its own, begun and opened again.
 fn report_journal(rt: &HostRuntime) -> io::Result<()> {
     let path = "benches_journal.bin";
     report_open(rt, path)?;
     report_open(rt, path)?;
     report_scan(rt, path)?;
+    report_keep(rt, path)?;
     fs::remove_file(rt, path)
 }
 
@@ -176,6 +181,7 @@ fn report_two_words(rt: &HostRuntime, call: &str, word: &str) -> io::Result<()> 
         ("write", Some(rounds)) => report_disk(rt, rounds),
         ("open", _) => report_open(rt, word),
         ("scan", _) => report_scan(rt, word),
+        ("keep", _) => report_keep(rt, word),
         _ => usage(rt),
     }
 }
