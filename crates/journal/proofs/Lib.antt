@@ -9,4 +9,5 @@ mod Readings
 mod SomeReading
 mod Spans
 mod Starts
+mod Stays
 mod Torn

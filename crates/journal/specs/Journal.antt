@@ -33,6 +33,10 @@ abbrev pub WasOrReadsAlike : List ℕ → Content → List ℕ → Type 0
 WasOrReadsAlike digest entry image =
     MayLeave entry image ⊎ ((held : List (ℕ × Commit)) × ReadsAs digest entry.reads (Holds held) × ReadsAs digest image (Holds held))
 
+-- each journal that was settled at the old content is settled at the new one
+abbrev pub StaysSettled : Content → Content → Type 0
+StaysSettled old new = (outline : Outline) (digest : List ℕ) (commits : List Commit) → IsSettled old outline digest commits → IsSettled new outline digest commits
+
 -- what opening answers is what the disk read at entry
 abbrev pub Opens : {X : Type 0} → List ℕ → List ℕ → Result (X × Vec (ℕ × Commit) Global) OpenFault → Type 0
 Opens digest reads (Ok found) = ReadsAs digest reads (Holds found.1.items)

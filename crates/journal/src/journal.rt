@@ -3,7 +3,8 @@ ghost use Rattle.outside.specs.Causes.{Rose};
 ghost use Rattle.outside.specs.Crashes.{LeavesOnly};
 ghost use Rattle.journal.specs.Calls.{CanAdd, IsReadyFor, disk_after, failed_after, journal_disk, journal_failed, journal_outline, ready_from, ready_to, reopened_outline, without_disk};
 ghost use Rattle.journal.specs.Commits.{gated};
-ghost use Rattle.journal.specs.Journal.{AreOf, IsBeforeOrAfter, IsSettled, Opens, OpenWrites, WasOrReadsAlike};
+ghost use Rattle.journal.specs.Images.{IsBegun};
+ghost use Rattle.journal.specs.Journal.{AreOf, IsBeforeOrAfter, IsSettled, Opens, OpenWrites, StaysSettled, WasOrReadsAlike};
 ghost use Rattle.journal.specs.declared.commit.Commit.{Commit as ACommit};
 
 use crate::bodies::make_ready;
@@ -27,7 +28,7 @@ pub struct Journal<D: Disk> {
 }
 
 /// Opens the journal on a disk, under the policy with this digest, and begins one where there is none. It answers each commit
-/// with the place of its record's gate. A refusal hands the disk back.
+/// with the place of its record's gate. A refusal hands the disk back. A disk on which a journal was begun isn't written to.
 pub fn open_journal<D: Disk>(
     alloc: Global,
     disk: D,
@@ -38,6 +39,8 @@ pub fn open_journal<D: Disk>(
         IsSettled (D.content (journal_disk found.0)) (journal_outline found.0) digest.now commits × (found.1.items ≡ gated commits)) }
     ensures any_moment { IsTrue D.tells → IsTrue (D.honest disk) →
         LeavesOnly (D.content disk) (D.content (disk_after result)) (WasOrReadsAlike digest.now (D.content disk)) }
+    ensures begun { IsTrue D.tells → IsBegun (D.content disk).reads → (D.content (disk_after result)).reads ≡ (D.content disk).reads }
+    ensures stays { IsTrue D.tells → IsTrue (D.honest disk) → StaysSettled (D.content disk) (D.content (disk_after result)) }
     ensures works { IfOk result (λ found. journal_failed found.0 ≡ false) }
     ensures listed { IfOk result (λ found. AreOf (journal_outline found.0) found.1.items) }
     ensures cause { OpenWrites D.honest D.faults D.last_step disk (disk_after result) (without_disk result) }
@@ -98,8 +101,8 @@ impl<D: Disk> Journal<D> {
         }
     }
 
-    /// Opens the journal's own disk again, as `open_journal` does. The journal's commits stay what they were until the answer is
-    /// adopted. Where the disk fails the journal has failed.
+    /// Opens the journal's own disk again, as `open_journal` does. The journal ends where it did until the answer is adopted, and
+    /// what is settled stays so, whatever the answer. Where the disk fails the journal has failed.
     pub fn reopen(
         &mut self,
         alloc: Global,
@@ -110,6 +113,8 @@ impl<D: Disk> Journal<D> {
             IsSettled (D.content (journal_disk self.new)) (reopened_outline found.0) digest.now commits × (found.1.items ≡ gated commits)) }
         ensures any_moment { IsTrue D.tells → IsTrue (D.honest (journal_disk self.old)) →
             LeavesOnly (D.content (journal_disk self.old)) (D.content (journal_disk self.new)) (WasOrReadsAlike digest.now (D.content (journal_disk self.old))) }
+        ensures begun { IsTrue D.tells → IsBegun (D.content (journal_disk self.old)).reads → (D.content (journal_disk self.new)).reads ≡ (D.content (journal_disk self.old)).reads }
+        ensures stays { IsTrue D.tells → IsTrue (D.honest (journal_disk self.old)) → StaysSettled (D.content (journal_disk self.old)) (D.content (journal_disk self.new)) }
         ensures same { journal_outline self.new ≡ journal_outline self.old }
         ensures listed { IfOk result (λ found. AreOf (reopened_outline found.0) found.1.items) }
         ensures failed { journal_failed self.new ≡ failed_after result (journal_failed self.old) }

@@ -3,7 +3,8 @@ ghost use Rattle.std.specs.Prelude.{◌≡◌, [], IsTrue, IfOk, IfErr, IsOk, Is
 ghost use Rattle.outside.specs.Crashes.{LeavesOnly};
 ghost use Rattle.journal.specs.Commits.{gated};
 ghost use Rattle.journal.specs.declared.commit.Commit.{Commit};
-ghost use Rattle.journal.specs.Journal.{AreOf, IsSettled, Opens, OpenWrites, WasOrReadsAlike};
+ghost use Rattle.journal.specs.Images.{IsBegun};
+ghost use Rattle.journal.specs.Journal.{AreOf, IsSettled, Opens, OpenWrites, StaysSettled, WasOrReadsAlike};
 ghost use Rattle.journal.specs.Outline.{outline_of};
 ghost use Rattle.journal.specs.declared.fault.OpenFault.{OpenFault};
 ghost use Rattle.journal.specs.working.Ends.{outline_at};
@@ -45,6 +46,8 @@ pub fn recover<D: Disk>(
         IsSettled (D.content disk.new) (outline_at found.0) digest.now commits × (found.1.items ≡ gated commits)) }
     ensures any_moment { IsTrue D.tells → IsTrue (D.honest disk.old) →
         LeavesOnly (D.content disk.old) (D.content disk.new) (WasOrReadsAlike digest.now (D.content disk.old)) }
+    ensures begun { IsTrue D.tells → IsBegun (D.content disk.old).reads → (D.content disk.new).reads ≡ (D.content disk.old).reads }
+    ensures stays { IsTrue D.tells → IsTrue (D.honest disk.old) → StaysSettled (D.content disk.old) (D.content disk.new) }
     ensures disk { OpenWrites D.honest D.faults D.last_step disk.old disk.new result }
 {
     if disk.sync().is_err() {

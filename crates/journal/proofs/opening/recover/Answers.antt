@@ -1,6 +1,7 @@
 use Rattle.std.proofs.Common.{rules, ◌≡◌, ◌≢◌, ◌∙◌, ◌<◌, length, slice_index}
 use Rattle.outside.specs.Disk.{after_sync}
 use Rattle.journal.proofs.Starts.{begun_answers, settled_once, starts_fresh, starts_short}
+use Rattle.journal.proofs.Stays.{not_short, not_shut, settled_begun, stays_same, stays_synced}
 use Rattle.journal.proofs.opening.recover.Goals as goal
 
 pub returns-in_err-end-clause-any_moment : goal.returns-in_err-end-clause-any_moment
@@ -62,3 +63,50 @@ returns-in-Fresh-clause-settled g c = λ told honest.
     let shut : slice_index old.reads 0 ≢ 1 = rw (c.find.ensures.disk.kept.reads told) (rw c.in-Fresh.is at (c.in_ok-end.ensures.found told)).1 in
     begun_answers c.begun-in-Fresh.result c.start_fresh.result (g.D.Disk.content c.start_fresh.new.disk) c.args.digest.now c.begun-in-Fresh.ensures.ok
     (c.start_fresh.ensures.settled told (c.find.ensures.disk.kept.honesty ∙ c.sync.ensures.honest ∙ honest) entry (starts_fresh c.args.digest.now entry old once shut))
+
+pub returns-in_err-end-clause-begun : goal.returns-in_err-end-clause-begun
+returns-in_err-end-clause-begun g c = λ told begun. c.find.ensures.disk.kept.reads told ∙ c.sync.ensures.reads told
+
+pub returns-in_err-end-clause-stays : goal.returns-in_err-end-clause-stays
+returns-in_err-end-clause-stays g c = λ told honest.
+    let entry = g.D.Disk.content c.args.disk.now in
+    let done : g.D.Disk.content c.sync.new.self ≡ after_sync entry = search rules in
+    stays_synced entry _ (c.find.ensures.disk.kept.same told (c.sync.ensures.honest ∙ honest) ∙ done)
+
+pub returns-in-Held-clause-begun : goal.returns-in-Held-clause-begun
+returns-in-Held-clause-begun g c = λ told begun. c.find.ensures.disk.kept.reads told ∙ c.sync.ensures.reads told
+
+pub returns-in-Held-clause-stays : goal.returns-in-Held-clause-stays
+returns-in-Held-clause-stays g c = λ told honest.
+    let entry = g.D.Disk.content c.args.disk.now in
+    let done : g.D.Disk.content c.sync.new.self ≡ after_sync entry = search rules in
+    stays_synced entry _ (c.find.ensures.disk.kept.same told (c.sync.ensures.honest ∙ honest) ∙ done)
+
+pub returns-in-Short-clause-begun : goal.returns-in-Short-clause-begun
+returns-in-Short-clause-begun g c = λ told begun.
+    let entry = g.D.Disk.content c.args.disk.now in
+    let short : length entry.reads < 2 = rw (c.sync.ensures.reads told) at (rw c.in-Short.is at (c.in_ok-end.ensures.found told)) in
+    absurd (not_short entry.reads begun short)
+
+pub returns-in-Short-clause-stays : goal.returns-in-Short-clause-stays
+returns-in-Short-clause-stays g c = λ told honest outline digest commits settled.
+    let entry = g.D.Disk.content c.args.disk.now in
+    let short : length entry.reads < 2 = rw (c.sync.ensures.reads told) at (rw c.in-Short.is at (c.in_ok-end.ensures.found told)) in
+    absurd (not_short entry.reads (settled_begun entry settled) short)
+
+pub returns-in-Fresh-clause-begun : goal.returns-in-Fresh-clause-begun
+returns-in-Fresh-clause-begun g c = λ told begun.
+    let entry = g.D.Disk.content c.args.disk.now in
+    let shut : slice_index entry.reads 0 ≢ 1 = rw (c.sync.ensures.reads told) at (rw c.in-Fresh.is at (c.in_ok-end.ensures.found told)).1 in
+    absurd (not_shut entry.reads begun shut)
+
+pub returns-in-Fresh-clause-stays : goal.returns-in-Fresh-clause-stays
+returns-in-Fresh-clause-stays g c = λ told honest outline digest commits settled.
+    let entry = g.D.Disk.content c.args.disk.now in
+    let shut : slice_index entry.reads 0 ≢ 1 = rw (c.sync.ensures.reads told) at (rw c.in-Fresh.is at (c.in_ok-end.ensures.found told)).1 in
+    absurd (not_shut entry.reads (settled_begun entry settled) shut)
+
+pub returns-then-is_err-clause-stays : goal.returns-then-is_err-clause-stays
+returns-then-is_err-clause-stays g c = λ told honest.
+    let same : g.D.Disk.content c.sync.new.self ≡ g.D.Disk.content c.args.disk.now = search rules in
+    stays_same (g.D.Disk.content c.args.disk.now) _ same
