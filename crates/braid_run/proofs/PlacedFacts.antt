@@ -26,19 +26,19 @@ use Rattle.policy_ast.specs.declared.policy.PlacedItem.{PlacedItem}
 
 -- ---- what is found of some ids
 
-here : (o : Option ℕ) (p : ℕ) (more : List ℕ) → o ≡ Some p → Contains (cons_option o more) p
+here : {X : Type 0} (o : Option X) (p : X) (more : List X) → o ≡ Some p → Contains (cons_option o more) p
 here o p more is = subst (λ q. Contains (cons_option q more) p) (sym is) (at_head p more)
 
-later : (o : Option ℕ) (p : ℕ) (more : List ℕ) → Contains more p → Contains (cons_option o more) p
+later : {X : Type 0} (o : Option X) (p : X) (more : List X) → Contains more p → Contains (cons_option o more) p
 later None p more inside = inside
 later (Some q) p more inside = behind_head q more p inside
 
-cases : (o : Option ℕ) (p : ℕ) (more : List ℕ) → Contains (cons_option o more) p → (o ≡ Some p) ⊎ Contains more p
+cases : {X : Type 0} (o : Option X) (p : X) (more : List X) → Contains (cons_option o more) p → (o ≡ Some p) ⊎ Contains more p
 cases None p more inside = inr inside
 cases (Some q) p more inside = elim (head_cases q more p inside) [ inl same ↦ inl (ap Some same) | inr behind ↦ inr behind ]
 
-module _ (place : List ℕ → Option ℕ) where
-  found_has : (ids : List (List ℕ)) (id : List ℕ) (p : ℕ) → Contains ids id → place id ≡ Some p → Contains (filter_map place ids) p
+module _ {X Y : Type 0} (place : X → Option Y) where
+  pub found_has : (ids : List X) (id : X) (p : Y) → Contains ids id → place id ≡ Some p → Contains (filter_map place ids) p
   found_has [] id p inside is = absurd (none_element id inside)
   found_has (i ∷ ids) id p inside is =
       elim (head_cases i ids id inside) [
@@ -46,7 +46,7 @@ module _ (place : List ℕ → Option ℕ) where
         | inr behind ↦ later (place i) p (filter_map place ids) (found_has ids id p behind is)
       ]
 
-  found_was : (ids : List (List ℕ)) (p : ℕ) → Contains (filter_map place ids) p → (id : List ℕ) × Contains ids id × (place id ≡ Some p)
+  found_was : (ids : List X) (p : Y) → Contains (filter_map place ids) p → (id : X) × Contains ids id × (place id ≡ Some p)
   found_was [] p inside = absurd (none_element p inside)
   found_was (i ∷ ids) p inside =
       elim (cases (place i) p (filter_map place ids) inside) [
