@@ -5,7 +5,7 @@ ghost use Rattle.std.specs.List.{All, Contains};
 ghost use Rattle.braid.specs.Agreeing.{Agree};
 ghost use Rattle.braid_run.specs.Batches.{AreChanges, Change, IsBatch, all_followed, commands_behind, shared_entries};
 ghost use Rattle.braid_run.specs.Laws.{HasOneBatch, HasOneRun, HasPlaceFacts, HasTip, HaveOneRun, PlaceFactsStay, StaysFinal};
-ghost use Rattle.braid_run.specs.Places.{AreAtPlace};
+ghost use Rattle.braid_run.specs.Places.{AgreeOnIds, AreAtPlace};
 ghost use Rattle.braid_run.specs.Published.{ArePublished, IsBehindAll, IsCovered, continued_run, head_ids};
 ghost use Rattle.braid_run.specs.RunOf.{AreEntriesOf, IsRunOf};
 ghost use Rattle.braid_run.specs.Runs.{run_of};
@@ -51,11 +51,14 @@ pub fn batches()
         → AreChanges policy commands changes → AreEntriesOf policy (commands_behind commands changes) (all_followed entries changes) }
 {}
 
-/// Each command, held or not, has facts at its place and no others. Where its parents are held, an append leaves them.
+/// Each command, held or not, has facts at its place and no others. Where its parents are held, an append leaves them; and where two lists hold its
+/// parents, and no id is two commands in them, they have the same facts at its place.
 pub fn commands_have_places()
     ensures place { (policy : List PlacedItem) (commands : List Command) (command : Command) → IsClosed commands → HasPlaceFacts policy commands command }
     ensures stays { (policy : List PlacedItem) (commands : List Command) (command : Command) → ((id : List ℕ) → Contains (parents_of command) id → IsHeld commands id)
         → PlaceFactsStay policy commands command }
+    ensures across { (policy : List PlacedItem) (one other : List Command) (command : Command) (rows : List Row) → IsClosed one → IsClosed other → AgreeOnIds one other
+        → ((id : List ℕ) → Contains (parents_of command) id → IsHeld one id × IsHeld other id) → AreAtPlace policy one command rows → AreAtPlace policy other command rows }
 {}
 
 /// Where a command may be added to what stands, what is held then stands.
@@ -65,10 +68,12 @@ pub fn additions_stand()
 {}
 
 /// A sound state stays sound where lawful commands are added with the entries and the facts of the new run. A command that is lawful where it stands
-/// stays so.
+/// stays so, and is lawful in another list that holds its parents, where no id is two commands in the two.
 pub fn extensions_stay_sound()
     ensures lawful { (criteria : Criteria) (commands more : List Command) (command : Command) → IsClosed (commands ++ more)
         → ((id : List ℕ) → Contains (parents_of command) id → IsHeld commands id) → IsLawful criteria commands command → IsLawful criteria (commands ++ more) command }
+    ensures across { (criteria : Criteria) (one other : List Command) (command : Command) → IsClosed one → IsClosed other → AgreeOnIds one other
+        → ((id : List ℕ) → Contains (parents_of command) id → IsHeld one id × IsHeld other id) → IsLawful criteria one command → IsLawful criteria other command }
     ensures state { (criteria : Criteria) (held : Held) (more : List Command) (cut : ℕ) (rows : List Row) (entries : List Entry) → IsStanding held.graph_id (held.commands ++ more)
         → IsSound criteria held → IsSoundExtension criteria held.commands more cut rows entries → IsSound criteria (extended held more cut rows entries) }
 {}
