@@ -1,5 +1,7 @@
 -- What a reader is told of a change: where to cut the entries that it has, and those that follow.
 use Rattle.std.specs.Prelude.{◌≡◌, ℕ, ◌≤◌, List, [], ◌∷◌, ◌++◌, drop, length, take}
+use Rattle.std.specs.List.{common_prefix_len}
+use Rattle.std.specs.Str.{bytes_eq}
 use Rattle.braid.specs.Braids.{IsBraid}
 use Rattle.braid_run.specs.Runs.{run_of}
 use Rattle.braid_run.specs.declared.entry.Entry.{Entry}
@@ -7,11 +9,15 @@ use Rattle.command.specs.Closed.{IsClosed}
 use Rattle.command.specs.declared.command.Command.{Command}
 use Rattle.policy_ast.specs.declared.policy.PlacedItem.{PlacedItem}
 
--- How many commands two braids have in common from their first on.
-pub record IsCut (before now : List Command) (cut : ℕ) : Type 0 where
+-- Two braids have so many commands in common, from their first on.
+pub record IsCommonPrefix (before now : List Command) (cut : ℕ) : Type 0 where
   pub within : (cut ≤ length before) × (cut ≤ length now)
   pub alike : take cut before ≡ take cut now
-  pub longest : (n : ℕ) → n ≤ length before → n ≤ length now → take n before ≡ take n now → n ≤ cut
+
+-- And no more.
+pub record IsCut (before now : List Command) (cut : ℕ) : Type 0 where
+  pub common : IsCommonPrefix before now cut
+  pub longest : (n : ℕ) → IsCommonPrefix before now n → n ≤ cut
 
 pub record Batch : Type 0 where
   pub cut : ℕ
@@ -25,6 +31,10 @@ pub record IsBatch (policy : List PlacedItem) (old new : List Command) (batch : 
   pub is : IsBraid new now
   pub cuts : IsCut before now batch.cut
   pub same_entries : batch.entries ≡ drop batch.cut (run_of policy now).entries
+
+-- How many entries two lists share, from their first on, as their ids tell.
+abbrev pub shared_entries : List Entry → List Entry → ℕ
+shared_entries before now = common_prefix_len (λ one other. bytes_eq one.id other.id) before now
 
 -- What a reader has once it has followed a batch.
 abbrev pub followed : List Entry → Batch → List Entry
