@@ -1,16 +1,19 @@
 -- The variants of a well-typed enum are few.
-use Rattle.std.proofs.Common.{◌≡◌, ℕ, ◌<◌, ◌^◌, ◌&&◌, Bool, true, false, List, length, Option, Some, None, nat_le, option_and_then, slice_get, refl, sym, ap, subst, ◌∙◌, arith}
+use Rattle.std.proofs.Common.{◌≡◌, ℕ, suc, [], ◌∷◌, ◌<◌, ◌^◌, ◌&&◌, Bool, true, false, List, length, Option, Some, None, nat_le, option_and_then, slice_get, Bor, IfSome, refl, sym, ap, subst, ◌∙◌, arith}
 use Rattle.std.specs.List.{position_or_len}
+use Rattle.std.specs.Option.{option_copied}
 use Rattle.std.proofs.lemmas.Bool.{leb-true}
 use Rattle.std.proofs.lemmas.List.Folds.{find_at}
 use Rattle.base_bytes.proofs.Bools.{and_then}
 use Rattle.policy_ast.specs.declared.item.Item.{Item}
 use Rattle.policy_ast.specs.declared.item.Item.TheVariants as item
+use Rattle.policy_ast.specs.declared.policy.PlacedItem.{PlacedItem}
 use Rattle.policy_expressions.specs.Policies.{AreItems}
 use Rattle.policy_rules.specs.FieldLists.{are_distinct}
 use Rattle.policy_rules.specs.Heads.{enum_named, variants}
 use Rattle.policy_rules.specs.Items.{IsOfKind, are_variants}
 use Rattle.policy_rules.specs.Names.{Name, is_named, item_named}
+use Rattle.policy_rules.specs.WellTyped.{IsWellTyped, items_of}
 
 variants_of_enum : (items : List Item) (own : Name) (all : List Name) → IsOfKind items (item.Enum own all) → are_variants all ≡ true
 variants_of_enum items own all (Rattle.policy_rules.specs.Items.enum is) = is
@@ -40,3 +43,15 @@ few_variants items are name all is = by (item_named items name) (find_at (is_nam
     by : (o : Option Item) → o ≡ slice_get items (position_or_len (is_named name) items) → option_and_then variants o ≡ Some all → length all < 2 ^ 16
     by None stands there = absurd (cc)
     by (Some i) stands there = of_item items i (are.well_typed (position_or_len (is_named name) items) i (sym stands)).of_kind all there
+
+pub few_named : (items : List Item) → AreItems items → (name : Name) (o : Option (Bor (List Name))) → option_copied o ≡ enum_named items name → IfSome o (λ all. length all.now < 2 ^ 16)
+few_named items are name None is = tt
+few_named items are name (Some all) is = few_variants items are name all.now (sym is)
+
+lengths_same : (policy : List PlacedItem) → length (items_of policy) ≡ length policy
+lengths_same [] = refl
+lengths_same (p ∷ policy) = ap suc (lengths_same policy)
+
+-- the items of a well-typed policy
+pub are_items : (policy : List PlacedItem) → IsWellTyped policy → length policy < 2 ^ 32 → AreItems (items_of policy)
+are_items policy typed few = record { few = rw (lengths_same policy) few; well_typed = typed }

@@ -42,6 +42,7 @@ impl<'a> Known<'a> {
         ensures { IfOk result (λ known. known ≡ items_of checked.now) }
     {
         let policy = checked.policy();
+        let _items = policy.items();
         let heads = Heads::new(alloc, policy)?;
         Ok(Known { heads })
     }
