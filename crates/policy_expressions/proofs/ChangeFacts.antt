@@ -1,12 +1,12 @@
 -- What one change makes of the end of a block.
-use Rattle.std.proofs.Common.{◌≡◌, List, [], ◌∷◌, ◌++◌, Option, None, Result, Ok, Err, refl, sym, ap, subst, ◌∙◌}
+use Rattle.std.proofs.Common.{◌≡◌, List, [], ◌∷◌, ◌++◌, None, Result, Ok, Err, refl, sym, ap, subst, ◌∙◌}
 use Rattle.fact_store.specs.Writes.{Outcome}
 use Rattle.fact_store.specs.declared.row.Row.{Row}
 use Rattle.policy_expressions.specs.Applying.{Applies, AppliesWrite, EndsBlock, with_effects}
 use Rattle.policy_expressions.specs.declared.stop.Stop.{Stop}
 use Rattle.policy_expressions.specs.declared.stop.Stop.TheVariants as stop
 use Rattle.policy_meaning.specs.Applying.{Checks, Ended, Faults, Passes, Sticks, applied, with_effect, written}
-use Rattle.policy_meaning.specs.Finish.{Change, Emit}
+use Rattle.policy_meaning.specs.Finish.{Change}
 use Rattle.policy_meaning.specs.declared.effect.Effect.{Effect}
 use Rattle.policy_meaning.specs.declared.ends.FaultKind.{FaultKind}
 

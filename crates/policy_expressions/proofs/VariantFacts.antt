@@ -1,5 +1,5 @@
 -- The variants of a well-typed enum are few.
-use Rattle.std.proofs.Common.{◌≡◌, ℕ, suc, [], ◌∷◌, ◌<◌, ◌^◌, ◌&&◌, Bool, true, false, List, length, Option, Some, None, nat_le, option_and_then, slice_get, Bor, IfSome, refl, sym, ap, subst, ◌∙◌, arith}
+use Rattle.std.proofs.Common.{◌≡◌, suc, [], ◌∷◌, ◌<◌, ◌^◌, ◌&&◌, true, List, length, Option, Some, None, nat_le, option_and_then, slice_get, Bor, IfSome, refl, sym, ap, subst, arith}
 use Rattle.std.specs.List.{position_or_len}
 use Rattle.std.specs.Option.{option_copied}
 use Rattle.std.proofs.lemmas.Bool.{leb-true}

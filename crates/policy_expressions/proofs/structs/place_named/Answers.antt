@@ -1,4 +1,4 @@
-use Rattle.std.proofs.Common.{◌∙◌, sym, ap}
+use Rattle.std.proofs.Common.{◌∙◌, sym}
 use Rattle.policy_expressions.proofs.FieldFacts.{found_here, not_here}
 use Rattle.policy_expressions.proofs.structs.place_named.Goals as goal
 

@@ -1,7 +1,7 @@
-use Rattle.std.proofs.Common.{◌∙◌, length, ap, sym, subst}
+use Rattle.std.proofs.Common.{sym, subst}
 use Rattle.policy_expressions.proofs.VariantFacts.{are_items}
 use Rattle.policy_expressions.specs.Policies.{AreItems}
-use Rattle.policy_rules.specs.WellTyped.{IsWellTyped, items_of}
+use Rattle.policy_rules.specs.WellTyped.{IsWellTyped}
 use Rattle.policy_expressions.proofs.known.Known.new.Goals as goal
 
 pub invariant_of-result : goal.invariant_of-result

@@ -1,4 +1,3 @@
-use Rattle.std.proofs.Common.{◌∙◌, ap, sym}
 use Rattle.policy_expressions.proofs.VariantFacts.{few_named}
 use Rattle.policy_expressions.proofs.known.Known.variants_named.Goals as goal
 
