@@ -30,10 +30,10 @@ ends_stay stop.NoMemory effects ended is = tt
 
 -- a write, by what it made of the rows
 pub write_applies : {A : Type 0} (r : Result A Stop) (outcome : Outcome) (change : Change) (old new : List Row) (effects : List Effect)
-    → ((more : List Change) → applied (change ∷ more) old ≡ written outcome (applied more)) → AppliesWrite r outcome new → (more : List Change) → Applies r change old new effects effects more
+    → ((more : List Change) → applied (change ∷ more) old ≡ written outcome (applied more)) → AppliesWrite r outcome old new → (more : List Change) → Applies r change old new effects effects more
 write_applies (Ok done) outcome change old new effects is made more = ap (with_effects effects) (is more ∙ ap (λ o. written o (applied more)) made)
 write_applies (Err why) outcome change old new effects is made more =
-    ends_stay why effects (applied (change ∷ more) old) (subst (EndsBlock why) (sym (is more)) (made (applied more)))
+    ends_stay why effects (applied (change ∷ more) old) (subst (EndsBlock why) (sym (is more)) (made.1 (applied more)))
 
 -- an effect stands behind those before it
 pub effect_applies : (effects : List Effect) (e : Effect) (ended : Ended) → with_effects effects (with_effect e ended) ≡ with_effects (effects ++ e ∷ []) ended
