@@ -89,7 +89,7 @@ fn number(of: &Value) -> Option<i64>
     }
 }
 
-pub(crate) fn is_equal(first: &Value, second: &Value) -> bool
+fn is_equal(first: &Value, second: &Value) -> bool
     ensures { result ≡ same_value first.now second.now }
 {
     first.is_same(second)
