@@ -4,3 +4,5 @@ mod NumberFacts
 mod VariantFacts
 mod FieldFacts
 mod ChangeFacts
+mod PlaceFacts
+mod DistinctFacts

@@ -1,2 +1,3 @@
 -- What private calls are shown by.
 pub mod Orders
+pub mod Places
