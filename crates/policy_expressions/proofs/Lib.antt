@@ -6,3 +6,4 @@ mod FieldFacts
 mod ChangeFacts
 mod PlaceFacts
 mod DistinctFacts
+mod GapFacts
