@@ -1,0 +1,2 @@
+-- What the bodies of this crate's calls go by; private contracts alone cite it.
+pub mod Below
