@@ -1,5 +1,5 @@
 -- The answer of admission, by what stands under the command's id and by the first reason against it.
-use Rattle.std.proofs.Common.{◌≡◌, ℕ, ◌+◌, cond, List, Option, Some, None, sym, ap, ◌∙◌, arith}
+use Rattle.std.proofs.Common.{◌≡◌, ℕ, ◌+◌, ◌≤◌, cond, List, Option, Some, None, sym, ap, subst, ◌∙◌, arith}
 use Rattle.std.specs.Option.{is_some}
 use Rattle.accept.specs.Admission.{IsAdmission, IsReason, admission_ticks, by_held, by_reason, held_with, met, new_ticks, reason_by}
 use Rattle.accept.specs.declared.answer.Admit.{Admit}
@@ -11,6 +11,11 @@ use Rattle.command.specs.Closed.{IsClosed, place_of}
 use Rattle.command.specs.Wire.{command_id}
 use Rattle.command.specs.declared.command.Command.{Command}
 use Rattle.command.proofs.PlaceFacts.{place_at}
+
+-- the look-up of an id that is the command's
+pub looked_up : (cs : List Command) (c : Command) (id : List ℕ) → id ≡ command_id c → (found : Option ℕ) → found ≡ place_of cs id → (place : Option ℕ) → found ≡ place
+    → place_of cs (command_id c) ≡ place
+looked_up cs c id named found is place same = sym (ap (place_of cs) named) ∙ sym is ∙ same
 
 module _ (criteria : Criteria) (graph_id : Option (List ℕ)) (cs : List Command) (closed : IsClosed cs) (c : Command) where
   -- a command stands under its id
@@ -39,3 +44,7 @@ module _ (criteria : Criteria) (graph_id : Option (List ℕ)) (cs : List Command
     pub new_ticks_are : (before now : ℕ) (braid : List Command) → now ≡ before + new_ticks criteria graph_id cs c braid → now ≡ before + admission_ticks criteria graph_id cs c braid
     new_ticks_are before now braid counted =
         counted ∙ sym (ap (λ o. before + cond (is_some o) 0 (new_ticks criteria graph_id cs c braid)) (not_held cs (command_id c) none))
+
+    pub new_ticks_within : (before now : ℕ) (braid : List Command) → now ≤ before + new_ticks criteria graph_id cs c braid → now ≤ before + admission_ticks criteria graph_id cs c braid
+    new_ticks_within before now braid bound =
+        subst (λ o. now ≤ before + cond (is_some o) 0 (new_ticks criteria graph_id cs c braid)) (sym (not_held cs (command_id c) none)) bound

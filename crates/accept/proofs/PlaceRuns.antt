@@ -1,5 +1,5 @@
 -- The places of a command's parents, and the run that gives the facts at its place.
-use Rattle.std.proofs.Common.{◌≡◌, ℕ, ◌+◌, ◌<◌, List, [], ◌∷◌, length, Option, Some, None, refl, ap, subst, ◌∙◌}
+use Rattle.std.proofs.Common.{◌≡◌, ℕ, ◌+◌, ◌<◌, ◌≤◌, List, [], ◌∷◌, length, Option, Some, None, refl, sym, ap, subst, ◌∙◌}
 use Rattle.std.specs.List.{All, cons_option, filter_map}
 use Rattle.std.proofs.lemmas.List.Elements.{All-cons, All-nil}
 use Rattle.std.proofs.lemmas.Option.{slice_get_within}
@@ -40,3 +40,10 @@ module _ (policy : List PlacedItem) (cs : List Command) (closed : IsClosed cs) (
   -- and takes just the ticks of the braid there
   pub ticks_are : (braid : List Command) → IsBraidOf cs (IsBehind cs c) braid → now ≡ before + (run_of policy braid).ticks
   ticks_are braid is = run.run.counted ∙ ap (λ b. before + (run_of policy b).ticks) (one_braid cs closed (IsBehind cs c) run.braid braid braid_is is)
+
+-- and a bound on its ticks is one by the braid there
+pub ticks_within : (policy : List PlacedItem) (cs : List Command) → IsClosed cs → (c : Command) (tips : List ℕ) → tips ≡ parent_places cs c → (before now : ℕ)
+    → ((braid : List Command) → IsBraidUnder cs tips braid → now ≤ before + (run_of policy braid).ticks) → (braid : List Command) → IsBraidOf cs (IsBehind cs c) braid
+    → now ≤ before + (run_of policy braid).ticks
+ticks_within policy cs closed c tips same before now bound braid is =
+    bound braid (subst (λ t. IsBraidUnder cs t braid) (sym same) (((has_place_facts cs closed c policy).under braid).0 is))

@@ -38,7 +38,7 @@ fn is_named(item: &Item, name: &[u8]) -> bool
     }
 }
 
-/// The item that a name means.
+/// The item that a name means. This stands in `policy_meaning` too, to be given out there.
 fn item_named<'a>(items: &'a [PlacedItem], name: &[u8]) -> Option<&'a Item>
     ensures { option_copied result ≡ item_named (items_of items.now) name.now }
 {

@@ -51,6 +51,8 @@ pub fn facts_at_place<R: Runner, G: Graph, F: FactBase, L: Ledger>(
     ensures typed { IfOk result (λ facts. AreTyped (R.rules runner.now) (F.rows facts)) }
     ensures ticks { OnOk result ((braid : List TheCommand) → IsBraidOf (G.commands graph.now) (IsBehind (G.commands graph.now) command.now) braid
         → steps.new ≡ steps.old + (run_of (R.rules runner.now) braid).ticks) }
+    ensures at_most { (braid : List TheCommand) → IsBraidOf (G.commands graph.now) (IsBehind (G.commands graph.now) command.now) braid
+        → steps.new ≤ steps.old + (run_of (R.rules runner.now) braid).ticks }
 {
     let tips = parent_places(alloc, graph, command)?;
     let Ran { facts, .. } = run_all::<R, G, F, L>(alloc, runner, graph, tips.as_slice(), steps)?;

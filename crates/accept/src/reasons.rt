@@ -1,6 +1,6 @@
 //! The reasons against a command whose id isn't held, in their order.
 
-ghost use Rattle.std.specs.Prelude.{◌≡◌, ◌<◌, ◌+◌, ℕ, [], ◌∷◌, ◌++◌, List, Some, None, Option, find, length, not, option_map, IfOk, OnOk};
+ghost use Rattle.std.specs.Prelude.{◌≡◌, ◌≤◌, ◌<◌, ◌+◌, ℕ, [], ◌∷◌, ◌++◌, List, Some, None, Option, find, length, not, option_map, IfOk, OnOk};
 ghost use Rattle.accept.specs.Admission.{IsFirstBeside, IsReason, first_of, full, is_graph_id, is_other_init, late_reasons, missing_parent, new_ticks, not_allowed, not_passed, other_init, parallel_finalize};
 ghost use Rattle.accept.specs.working.Forms.{IsEarly, IsTheCall};
 ghost use Rattle.braid.specs.Braids.{IsBraidOf};
@@ -151,6 +151,8 @@ fn not_allowed<R: Runner, G: Graph, F: FactBase, L: Ledger>(
     ensures why { IfOk result (λ why. (rows : List Row) → AreAtPlace (R.rules runner.now) (G.commands graph.now) command.now rows → why ≡ not_allowed (R.rules runner.now) rows (Some call.now)) }
     ensures ticks { OnOk result ((braid : List TheCommand) → IsBraidOf (G.commands graph.now) (IsBehind (G.commands graph.now) command.now) braid
         → steps.new ≡ steps.old + ((run_of (R.rules runner.now) braid).ticks + 1)) }
+    ensures at_most { (braid : List TheCommand) → IsBraidOf (G.commands graph.now) (IsBehind (G.commands graph.now) command.now) braid
+        → steps.new ≤ steps.old + ((run_of (R.rules runner.now) braid).ticks + 1) }
 {
     let mut facts = facts_at_place::<R, G, F, L>(alloc, runner, graph, command, steps)?;
     let verdict = runner.run_command(alloc, call, &mut facts, steps)?;
@@ -203,6 +205,8 @@ fn late<R: Runner, G: Graph, F: FactBase, L: Ledger>(
         → IsFirstBeside (G.commands graph.now) command.now beside → reason ≡ first_of (late_reasons (R.rules runner.now) (G.commands graph.now) command.now rows beside)) }
     ensures ticks { OnOk result ((braid : List TheCommand) → IsBraidOf (G.commands graph.now) (IsBehind (G.commands graph.now) command.now) braid
         → steps.new ≡ steps.old + ((run_of (R.rules runner.now) braid).ticks + 1)) }
+    ensures at_most { (braid : List TheCommand) → IsBraidOf (G.commands graph.now) (IsBehind (G.commands graph.now) command.now) braid
+        → steps.new ≤ steps.old + ((run_of (R.rules runner.now) braid).ticks + 1) }
 {
     match not_allowed::<R, G, F, L>(alloc, runner, graph, command, call, steps)? {
         Some(why) => Ok(Some(Reason::Policy(why))),
@@ -228,6 +232,8 @@ pub fn reason_against<R: Runner, G: Graph, F: FactBase, E: Envelope, L: Ledger>(
     ensures reason { IfOk result (IsReason (record { policy = R.rules runner.now; digest = digest.now; good = E.good }) graph_id.now (G.commands graph.now) command.now) }
     ensures ticks { OnOk result ((braid : List TheCommand) → IsBraidOf (G.commands graph.now) (IsBehind (G.commands graph.now) command.now) braid
         → steps.new ≡ steps.old + new_ticks (record { policy = R.rules runner.now; digest = digest.now; good = E.good }) graph_id.now (G.commands graph.now) command.now braid) }
+    ensures at_most { (braid : List TheCommand) → IsBraidOf (G.commands graph.now) (IsBehind (G.commands graph.now) command.now) braid
+        → steps.new ≤ steps.old + new_ticks (record { policy = R.rules runner.now; digest = digest.now; good = E.good }) graph_id.now (G.commands graph.now) command.now braid }
 {
     match early_reason(alloc, runner, digest, graph_id, graph, command, id, env)? {
         Early::Against(reason) => Ok(Some(reason)),
