@@ -1,9 +1,7 @@
 //! What a policy does, run over its tree.
 #![tactic(auto)]
 
-/// Nothing yet.
-pub fn nothing() -> u32
-    ensures { result ≡ 0 }
-{
-    0
-}
+mod calls;
+mod expressions;
+mod flow;
+mod statements;
