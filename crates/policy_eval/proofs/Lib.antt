@@ -5,3 +5,4 @@ pub mod Evaluating
 pub mod Loops
 pub mod Running
 pub mod RoomForms
+pub mod Flows
