@@ -1,3 +1,4 @@
 -- What the private calls are shown by, step by step.
 pub mod Endings
 pub mod Rooms
+pub mod Steps
