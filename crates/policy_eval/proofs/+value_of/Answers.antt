@@ -1,12 +1,14 @@
-use Rattle.std.proofs.Common.{◌∙◌, ◌+◌, true, false, Some, length, refl, sym, ap, arith}
+use Rattle.std.proofs.Common.{◌∙◌, ◌+◌, ◌-◌, ◌<◌, true, false, Some, length, refl, sym, ap, subst, arith}
 use Rattle.std.proofs.lemmas.Result.{err_from_is_err_and}
 use Rattle.policy_ast.specs.declared.expr.Expr.{Expr}
 use Rattle.policy_ast.specs.declared.statement.Stmt.{Stmt}
 use Rattle.policy_eval.proofs.Evaluating.{by_next, by_none, by_one, by_second, first_stops, test_ends, test_goes, test_stops}
+use Rattle.policy_eval.proofs.Flows.{body_among, called_on}
+use Rattle.policy_eval.specs.working.Endings.{Runs}
 use Rattle.policy_eval.proofs.Loops.{free_meant, free_step, let_stops, turn_stops, value_gap}
-use Rattle.policy_eval.proofs.RoomForms.{and_room, arguments_fall, binds_fall, block_falls, block_takes, calculation_room, call_falls, call_takes, check_room, choice_room, compare_room, count_room, else_falls, else_stmt_takes, else_takes, exists_room, field_room, first_falls, gap_falls, head_falls, if_body_falls, if_head_falls, if_rest_falls, if_room, item_falls, let_falls, let_stmt_room, match_body_falls, match_head_falls, match_room, only_falls, or_room, pattern_takes, presence_room, query_room, return_room, second_falls, some_room, struct_room, unary_room}
+use Rattle.policy_eval.proofs.RoomForms.{and_room, arguments_fall, binds_fall, block_falls, block_takes, calculation_room, call_falls, call_takes, check_room, choice_room, compare_room, count_room, else_falls, else_stmt_takes, else_takes, exists_room, field_room, first_falls, gap_falls, head_falls, if_body_falls, if_head_falls, if_rest_falls, if_room, item_falls, let_falls, let_stmt_room, match_body_falls, match_head_falls, match_room, only_falls, or_room, body_falls, pattern_takes, presence_room, query_room, return_room, second_falls, some_room, struct_room, unary_room}
 use Rattle.policy_eval.proofs.Running.{Lists, all_through, arm_goes, arm_stops, by_itself, by_let, by_value, head_goes, head_stops, through_ends, through_on}
-use Rattle.policy_eval.specs.working.Rooms.{arm_room, bind_room, call_room, room, stmt_room, total}
+use Rattle.policy_eval.specs.working.Rooms.{arm_room, bind_room, call_room, free_room, let_room, room, stmt_room, total}
 use Rattle.policy_eval.specs.working.Steps.{checked_of, let_of, return_of}
 use Rattle.policy_expressions.proofs.FormMeanings.{and_meant, calculation_meant, call_meant, choice_meant, compare_meant, count_meant, exists_meant, field_meant, foreign_call_meant, literal_meant, name_meant, none_meant, or_meant, presence_meant, query_meant, some_meant, struct_meant, this_meant, unary_meant}
 use Rattle.policy_expressions.proofs.StatementMeanings.{check_does, choice_does, finish_does, let_does, map_does, match_does, publish_does, return_does}
@@ -25,7 +27,8 @@ use Rattle.policy_eval.proofs.+value_of.Goals as goal
 
 pub expressions::value_of-value_of-first-requires : goal.expressions::value_of-value_of-first-requires
 expressions::value_of-value_of-first-requires g t c κs within =
-    (first_falls (room (call_room c.args.known.now c.args.depth) c.get-a.result.now) (room (call_room c.args.known.now c.args.depth) c.get-b.result.now) (room (call_room c.args.known.now c.args.depth) c.args.e.now) (ap (room (call_room c.args.known.now c.args.depth)) (rw (c.get-a.ensures, c.get-b.ensures) c.in-Or.is) ∙ or_room (call_room c.args.known.now c.args.depth) c.get-a.result.now c.get-b.result.now), within)
+    let falls : (room (call_room c.args.known.now c.args.depth) c.get-a.result.now) < (room (call_room c.args.known.now c.args.depth) c.args.e.now) = first_falls (room (call_room c.args.known.now c.args.depth) c.get-a.result.now) (room (call_room c.args.known.now c.args.depth) c.get-b.result.now) (room (call_room c.args.known.now c.args.depth) c.args.e.now) (ap (room (call_room c.args.known.now c.args.depth)) (rw (c.get-a.ensures, c.get-b.ensures) c.in-Or.is) ∙ or_room (call_room c.args.known.now c.args.depth) c.get-a.result.now c.get-b.result.now) in
+    (omega arith, within)
 
 pub expressions::value_of-returns-in_err-test-in-Or : goal.expressions::value_of-returns-in_err-test-in-Or
 expressions::value_of-returns-in_err-test-in-Or g t c =
@@ -39,7 +42,8 @@ expressions::value_of-returns-then-test g t c =
 
 pub expressions::value_of-value_of-requires : goal.expressions::value_of-value_of-requires
 expressions::value_of-value_of-requires g t c κs within =
-    (second_falls (room (call_room c.args.known.now c.args.depth) c.get-a.result.now) (room (call_room c.args.known.now c.args.depth) c.get-b.result.now) (room (call_room c.args.known.now c.args.depth) c.args.e.now) (ap (room (call_room c.args.known.now c.args.depth)) (rw (c.get-a.ensures, c.get-b.ensures) c.in-Or.is) ∙ or_room (call_room c.args.known.now c.args.depth) c.get-a.result.now c.get-b.result.now), within)
+    let falls : (room (call_room c.args.known.now c.args.depth) c.get-b.result.now) < (room (call_room c.args.known.now c.args.depth) c.args.e.now) = second_falls (room (call_room c.args.known.now c.args.depth) c.get-a.result.now) (room (call_room c.args.known.now c.args.depth) c.get-b.result.now) (room (call_room c.args.known.now c.args.depth) c.args.e.now) (ap (room (call_room c.args.known.now c.args.depth)) (rw (c.get-a.ensures, c.get-b.ensures) c.in-Or.is) ∙ or_room (call_room c.args.known.now c.args.depth) c.get-a.result.now c.get-b.result.now) in
+    (omega arith, within)
 
 pub expressions::value_of-returns-else-test : goal.expressions::value_of-returns-else-test
 expressions::value_of-returns-else-test g t c =
@@ -47,7 +51,8 @@ expressions::value_of-returns-else-test g t c =
 
 pub expressions::value_of-value_of-first-requires-in-And : goal.expressions::value_of-value_of-first-requires-in-And
 expressions::value_of-value_of-first-requires-in-And g t c κs within =
-    (first_falls (room (call_room c.args.known.now c.args.depth) c.get-a-in-And.result.now) (room (call_room c.args.known.now c.args.depth) c.get-b-in-And.result.now) (room (call_room c.args.known.now c.args.depth) c.args.e.now) (ap (room (call_room c.args.known.now c.args.depth)) (rw (c.get-a-in-And.ensures, c.get-b-in-And.ensures) c.in-And.is) ∙ and_room (call_room c.args.known.now c.args.depth) c.get-a-in-And.result.now c.get-b-in-And.result.now), within)
+    let falls : (room (call_room c.args.known.now c.args.depth) c.get-a-in-And.result.now) < (room (call_room c.args.known.now c.args.depth) c.args.e.now) = first_falls (room (call_room c.args.known.now c.args.depth) c.get-a-in-And.result.now) (room (call_room c.args.known.now c.args.depth) c.get-b-in-And.result.now) (room (call_room c.args.known.now c.args.depth) c.args.e.now) (ap (room (call_room c.args.known.now c.args.depth)) (rw (c.get-a-in-And.ensures, c.get-b-in-And.ensures) c.in-And.is) ∙ and_room (call_room c.args.known.now c.args.depth) c.get-a-in-And.result.now c.get-b-in-And.result.now) in
+    (omega arith, within)
 
 pub expressions::value_of-returns-in_err-test-in-And : goal.expressions::value_of-returns-in_err-test-in-And
 expressions::value_of-returns-in_err-test-in-And g t c =
@@ -57,7 +62,8 @@ expressions::value_of-returns-in_err-test-in-And g t c =
 
 pub expressions::value_of-value_of-requires-then-test-2 : goal.expressions::value_of-value_of-requires-then-test-2
 expressions::value_of-value_of-requires-then-test-2 g t c κs within =
-    (second_falls (room (call_room c.args.known.now c.args.depth) c.get-a-in-And.result.now) (room (call_room c.args.known.now c.args.depth) c.get-b-in-And.result.now) (room (call_room c.args.known.now c.args.depth) c.args.e.now) (ap (room (call_room c.args.known.now c.args.depth)) (rw (c.get-a-in-And.ensures, c.get-b-in-And.ensures) c.in-And.is) ∙ and_room (call_room c.args.known.now c.args.depth) c.get-a-in-And.result.now c.get-b-in-And.result.now), within)
+    let falls : (room (call_room c.args.known.now c.args.depth) c.get-b-in-And.result.now) < (room (call_room c.args.known.now c.args.depth) c.args.e.now) = second_falls (room (call_room c.args.known.now c.args.depth) c.get-a-in-And.result.now) (room (call_room c.args.known.now c.args.depth) c.get-b-in-And.result.now) (room (call_room c.args.known.now c.args.depth) c.args.e.now) (ap (room (call_room c.args.known.now c.args.depth)) (rw (c.get-a-in-And.ensures, c.get-b-in-And.ensures) c.in-And.is) ∙ and_room (call_room c.args.known.now c.args.depth) c.get-a-in-And.result.now c.get-b-in-And.result.now) in
+    (omega arith, within)
 
 pub expressions::value_of-returns-then-test-2 : goal.expressions::value_of-returns-then-test-2
 expressions::value_of-returns-then-test-2 g t c =
@@ -69,7 +75,8 @@ expressions::value_of-returns-else-test-2 g t c =
 
 pub expressions::value_of-value_of-requires-in-Compare : goal.expressions::value_of-value_of-requires-in-Compare
 expressions::value_of-value_of-requires-in-Compare g t c κs within =
-    (first_falls (room (call_room c.args.known.now c.args.depth) c.get-a-in-Compare.result.now) (room (call_room c.args.known.now c.args.depth) c.get-b-in-Compare.result.now) (room (call_room c.args.known.now c.args.depth) c.args.e.now) (ap (room (call_room c.args.known.now c.args.depth)) (rw (c.get-a-in-Compare.ensures, c.get-b-in-Compare.ensures) c.in-Compare.is) ∙ compare_room (call_room c.args.known.now c.args.depth) c.get-a-in-Compare.result.now c.in-Compare.op c.get-b-in-Compare.result.now), within)
+    let falls : (room (call_room c.args.known.now c.args.depth) c.get-a-in-Compare.result.now) < (room (call_room c.args.known.now c.args.depth) c.args.e.now) = first_falls (room (call_room c.args.known.now c.args.depth) c.get-a-in-Compare.result.now) (room (call_room c.args.known.now c.args.depth) c.get-b-in-Compare.result.now) (room (call_room c.args.known.now c.args.depth) c.args.e.now) (ap (room (call_room c.args.known.now c.args.depth)) (rw (c.get-a-in-Compare.ensures, c.get-b-in-Compare.ensures) c.in-Compare.is) ∙ compare_room (call_room c.args.known.now c.args.depth) c.get-a-in-Compare.result.now c.in-Compare.op c.get-b-in-Compare.result.now) in
+    (omega arith, within)
 
 pub expressions::value_of-returns-in_err-first-in-Compare : goal.expressions::value_of-returns-in_err-first-in-Compare
 expressions::value_of-returns-in_err-first-in-Compare g t c =
@@ -79,7 +86,8 @@ expressions::value_of-returns-in_err-first-in-Compare g t c =
 
 pub expressions::value_of-value_of-second-requires : goal.expressions::value_of-value_of-second-requires
 expressions::value_of-value_of-second-requires g t c κs within =
-    (second_falls (room (call_room c.args.known.now c.args.depth) c.get-a-in-Compare.result.now) (room (call_room c.args.known.now c.args.depth) c.get-b-in-Compare.result.now) (room (call_room c.args.known.now c.args.depth) c.args.e.now) (ap (room (call_room c.args.known.now c.args.depth)) (rw (c.get-a-in-Compare.ensures, c.get-b-in-Compare.ensures) c.in-Compare.is) ∙ compare_room (call_room c.args.known.now c.args.depth) c.get-a-in-Compare.result.now c.in-Compare.op c.get-b-in-Compare.result.now), within)
+    let falls : (room (call_room c.args.known.now c.args.depth) c.get-b-in-Compare.result.now) < (room (call_room c.args.known.now c.args.depth) c.args.e.now) = second_falls (room (call_room c.args.known.now c.args.depth) c.get-a-in-Compare.result.now) (room (call_room c.args.known.now c.args.depth) c.get-b-in-Compare.result.now) (room (call_room c.args.known.now c.args.depth) c.args.e.now) (ap (room (call_room c.args.known.now c.args.depth)) (rw (c.get-a-in-Compare.ensures, c.get-b-in-Compare.ensures) c.in-Compare.is) ∙ compare_room (call_room c.args.known.now c.args.depth) c.get-a-in-Compare.result.now c.in-Compare.op c.get-b-in-Compare.result.now) in
+    (omega arith, within)
 
 pub expressions::value_of-returns-in_ok-first-in-Compare : goal.expressions::value_of-returns-in_ok-first-in-Compare
 expressions::value_of-returns-in_ok-first-in-Compare g t c =
@@ -87,7 +95,8 @@ expressions::value_of-returns-in_ok-first-in-Compare g t c =
 
 pub expressions::value_of-value_of-requires-in-Arithmetic : goal.expressions::value_of-value_of-requires-in-Arithmetic
 expressions::value_of-value_of-requires-in-Arithmetic g t c κs within =
-    (first_falls (room (call_room c.args.known.now c.args.depth) c.get-a-in-Arithmetic.result.now) (room (call_room c.args.known.now c.args.depth) c.get-b-in-Arithmetic.result.now) (room (call_room c.args.known.now c.args.depth) c.args.e.now) (ap (room (call_room c.args.known.now c.args.depth)) (rw (c.get-a-in-Arithmetic.ensures, c.get-b-in-Arithmetic.ensures) c.in-Arithmetic.is) ∙ calculation_room (call_room c.args.known.now c.args.depth) c.in-Arithmetic.op c.get-a-in-Arithmetic.result.now c.get-b-in-Arithmetic.result.now), within)
+    let falls : (room (call_room c.args.known.now c.args.depth) c.get-a-in-Arithmetic.result.now) < (room (call_room c.args.known.now c.args.depth) c.args.e.now) = first_falls (room (call_room c.args.known.now c.args.depth) c.get-a-in-Arithmetic.result.now) (room (call_room c.args.known.now c.args.depth) c.get-b-in-Arithmetic.result.now) (room (call_room c.args.known.now c.args.depth) c.args.e.now) (ap (room (call_room c.args.known.now c.args.depth)) (rw (c.get-a-in-Arithmetic.ensures, c.get-b-in-Arithmetic.ensures) c.in-Arithmetic.is) ∙ calculation_room (call_room c.args.known.now c.args.depth) c.in-Arithmetic.op c.get-a-in-Arithmetic.result.now c.get-b-in-Arithmetic.result.now) in
+    (omega arith, within)
 
 pub expressions::value_of-returns-in_err-first-in-Arithmetic : goal.expressions::value_of-returns-in_err-first-in-Arithmetic
 expressions::value_of-returns-in_err-first-in-Arithmetic g t c =
@@ -97,7 +106,8 @@ expressions::value_of-returns-in_err-first-in-Arithmetic g t c =
 
 pub expressions::value_of-value_of-second-requires-in-Arithmetic : goal.expressions::value_of-value_of-second-requires-in-Arithmetic
 expressions::value_of-value_of-second-requires-in-Arithmetic g t c κs within =
-    (second_falls (room (call_room c.args.known.now c.args.depth) c.get-a-in-Arithmetic.result.now) (room (call_room c.args.known.now c.args.depth) c.get-b-in-Arithmetic.result.now) (room (call_room c.args.known.now c.args.depth) c.args.e.now) (ap (room (call_room c.args.known.now c.args.depth)) (rw (c.get-a-in-Arithmetic.ensures, c.get-b-in-Arithmetic.ensures) c.in-Arithmetic.is) ∙ calculation_room (call_room c.args.known.now c.args.depth) c.in-Arithmetic.op c.get-a-in-Arithmetic.result.now c.get-b-in-Arithmetic.result.now), within)
+    let falls : (room (call_room c.args.known.now c.args.depth) c.get-b-in-Arithmetic.result.now) < (room (call_room c.args.known.now c.args.depth) c.args.e.now) = second_falls (room (call_room c.args.known.now c.args.depth) c.get-a-in-Arithmetic.result.now) (room (call_room c.args.known.now c.args.depth) c.get-b-in-Arithmetic.result.now) (room (call_room c.args.known.now c.args.depth) c.args.e.now) (ap (room (call_room c.args.known.now c.args.depth)) (rw (c.get-a-in-Arithmetic.ensures, c.get-b-in-Arithmetic.ensures) c.in-Arithmetic.is) ∙ calculation_room (call_room c.args.known.now c.args.depth) c.in-Arithmetic.op c.get-a-in-Arithmetic.result.now c.get-b-in-Arithmetic.result.now) in
+    (omega arith, within)
 
 pub expressions::value_of-returns-in_ok-first-in-Arithmetic : goal.expressions::value_of-returns-in_ok-first-in-Arithmetic
 expressions::value_of-returns-in_ok-first-in-Arithmetic g t c =
@@ -105,7 +115,8 @@ expressions::value_of-returns-in_ok-first-in-Arithmetic g t c =
 
 pub expressions::value_of-value_of-found-requires : goal.expressions::value_of-value_of-found-requires
 expressions::value_of-value_of-found-requires g t c κs within =
-    (only_falls (room (call_room c.args.known.now c.args.depth) c.get-a-in-Is.result.now) (room (call_room c.args.known.now c.args.depth) c.args.e.now) (ap (room (call_room c.args.known.now c.args.depth)) (rw c.get-a-in-Is.ensures c.in-Is.is) ∙ presence_room (call_room c.args.known.now c.args.depth) c.get-a-in-Is.result.now c.in-Is.op), within)
+    let falls : (room (call_room c.args.known.now c.args.depth) c.get-a-in-Is.result.now) < (room (call_room c.args.known.now c.args.depth) c.args.e.now) = only_falls (room (call_room c.args.known.now c.args.depth) c.get-a-in-Is.result.now) (room (call_room c.args.known.now c.args.depth) c.args.e.now) (ap (room (call_room c.args.known.now c.args.depth)) (rw c.get-a-in-Is.ensures c.in-Is.is) ∙ presence_room (call_room c.args.known.now c.args.depth) c.get-a-in-Is.result.now c.in-Is.op) in
+    (omega arith, within)
 
 pub expressions::value_of-returns-in-Is : goal.expressions::value_of-returns-in-Is
 expressions::value_of-returns-in-Is g t c =
@@ -113,7 +124,8 @@ expressions::value_of-returns-in-Is g t c =
 
 pub expressions::value_of-value_of-found-requires-in-Unary : goal.expressions::value_of-value_of-found-requires-in-Unary
 expressions::value_of-value_of-found-requires-in-Unary g t c κs within =
-    (only_falls (room (call_room c.args.known.now c.args.depth) c.get-a-in-Unary.result.now) (room (call_room c.args.known.now c.args.depth) c.args.e.now) (ap (room (call_room c.args.known.now c.args.depth)) (rw c.get-a-in-Unary.ensures c.in-Unary.is) ∙ unary_room (call_room c.args.known.now c.args.depth) c.in-Unary.op c.get-a-in-Unary.result.now), within)
+    let falls : (room (call_room c.args.known.now c.args.depth) c.get-a-in-Unary.result.now) < (room (call_room c.args.known.now c.args.depth) c.args.e.now) = only_falls (room (call_room c.args.known.now c.args.depth) c.get-a-in-Unary.result.now) (room (call_room c.args.known.now c.args.depth) c.args.e.now) (ap (room (call_room c.args.known.now c.args.depth)) (rw c.get-a-in-Unary.ensures c.in-Unary.is) ∙ unary_room (call_room c.args.known.now c.args.depth) c.in-Unary.op c.get-a-in-Unary.result.now) in
+    (omega arith, within)
 
 pub expressions::value_of-returns-in-Unary : goal.expressions::value_of-returns-in-Unary
 expressions::value_of-returns-in-Unary g t c =
@@ -121,7 +133,8 @@ expressions::value_of-returns-in-Unary g t c =
 
 pub expressions::value_of-value_of-found-requires-in-Field : goal.expressions::value_of-value_of-found-requires-in-Field
 expressions::value_of-value_of-found-requires-in-Field g t c κs within =
-    (only_falls (room (call_room c.args.known.now c.args.depth) c.get-a-in-Field.result.now) (room (call_room c.args.known.now c.args.depth) c.args.e.now) (ap (room (call_room c.args.known.now c.args.depth)) (rw c.get-a-in-Field.ensures c.in-Field.is) ∙ field_room (call_room c.args.known.now c.args.depth) c.get-a-in-Field.result.now c.in-Field.name), within)
+    let falls : (room (call_room c.args.known.now c.args.depth) c.get-a-in-Field.result.now) < (room (call_room c.args.known.now c.args.depth) c.args.e.now) = only_falls (room (call_room c.args.known.now c.args.depth) c.get-a-in-Field.result.now) (room (call_room c.args.known.now c.args.depth) c.args.e.now) (ap (room (call_room c.args.known.now c.args.depth)) (rw c.get-a-in-Field.ensures c.in-Field.is) ∙ field_room (call_room c.args.known.now c.args.depth) c.get-a-in-Field.result.now c.in-Field.name) in
+    (omega arith, within)
 
 pub expressions::value_of-returns-in-Field : goal.expressions::value_of-returns-in-Field
 expressions::value_of-returns-in-Field g t c =
@@ -129,7 +142,8 @@ expressions::value_of-returns-in-Field g t c =
 
 pub expressions::value_of-value_of-found-requires-in-Some : goal.expressions::value_of-value_of-found-requires-in-Some
 expressions::value_of-value_of-found-requires-in-Some g t c κs within =
-    (only_falls (room (call_room c.args.known.now c.args.depth) c.get-a-in-Some.result.now) (room (call_room c.args.known.now c.args.depth) c.args.e.now) (ap (room (call_room c.args.known.now c.args.depth)) (rw c.get-a-in-Some.ensures c.in-Some.is) ∙ some_room (call_room c.args.known.now c.args.depth) c.get-a-in-Some.result.now), within)
+    let falls : (room (call_room c.args.known.now c.args.depth) c.get-a-in-Some.result.now) < (room (call_room c.args.known.now c.args.depth) c.args.e.now) = only_falls (room (call_room c.args.known.now c.args.depth) c.get-a-in-Some.result.now) (room (call_room c.args.known.now c.args.depth) c.args.e.now) (ap (room (call_room c.args.known.now c.args.depth)) (rw c.get-a-in-Some.ensures c.in-Some.is) ∙ some_room (call_room c.args.known.now c.args.depth) c.get-a-in-Some.result.now) in
+    (omega arith, within)
 
 pub expressions::value_of-returns-in-Some : goal.expressions::value_of-returns-in-Some
 expressions::value_of-returns-in-Some g t c =
@@ -157,7 +171,8 @@ expressions::value_of-returns-in-ForeignCall g t c =
 
 pub expressions::value_of-values_of-requires : goal.expressions::value_of-values_of-requires
 expressions::value_of-values_of-requires g t c κs within =
-    (arguments_fall (total (room (call_room c.args.known.now c.args.depth)) c.as_slice-arguments.result.now) (call_room c.args.known.now c.args.depth) (room (call_room c.args.known.now c.args.depth) c.args.e.now) (ap (room (call_room c.args.known.now c.args.depth)) (rw c.as_slice-arguments.ensures c.in-Call.is) ∙ call_takes (call_room c.args.known.now c.args.depth) c.in-Call.function c.as_slice-arguments.result.now), within)
+    let falls : (total (room (call_room c.args.known.now c.args.depth)) c.as_slice-arguments.result.now) + 1 < (room (call_room c.args.known.now c.args.depth) c.args.e.now) = arguments_fall (total (room (call_room c.args.known.now c.args.depth)) c.as_slice-arguments.result.now) (call_room c.args.known.now c.args.depth) (room (call_room c.args.known.now c.args.depth) c.args.e.now) (ap (room (call_room c.args.known.now c.args.depth)) (rw c.as_slice-arguments.ensures c.in-Call.is) ∙ call_takes (call_room c.args.known.now c.args.depth) c.in-Call.function c.as_slice-arguments.result.now) in
+    (omega arith, within)
 
 pub expressions::value_of-returns-in_err-values-in-Call : goal.expressions::value_of-returns-in_err-values-in-Call
 expressions::value_of-returns-in_err-values-in-Call g t c =
@@ -167,7 +182,8 @@ expressions::value_of-returns-in_err-values-in-Call g t c =
 
 pub expressions::value_of-called-requires : goal.expressions::value_of-called-requires
 expressions::value_of-called-requires g t c κs within =
-    (call_falls (total (room (call_room c.args.known.now c.args.depth)) c.as_slice-arguments.result.now) (call_room c.args.known.now c.args.depth) (room (call_room c.args.known.now c.args.depth) c.args.e.now) (ap (room (call_room c.args.known.now c.args.depth)) (rw c.as_slice-arguments.ensures c.in-Call.is) ∙ call_takes (call_room c.args.known.now c.args.depth) c.in-Call.function c.as_slice-arguments.result.now), within)
+    let falls : (call_room c.args.known.now c.args.depth) + 1 < (room (call_room c.args.known.now c.args.depth) c.args.e.now) = call_falls (total (room (call_room c.args.known.now c.args.depth)) c.as_slice-arguments.result.now) (call_room c.args.known.now c.args.depth) (room (call_room c.args.known.now c.args.depth) c.args.e.now) (ap (room (call_room c.args.known.now c.args.depth)) (rw c.as_slice-arguments.ensures c.in-Call.is) ∙ call_takes (call_room c.args.known.now c.args.depth) c.in-Call.function c.as_slice-arguments.result.now) in
+    (omega arith, within)
 
 pub expressions::value_of-returns-in_ok-values-in-Call : goal.expressions::value_of-returns-in_ok-values-in-Call
 expressions::value_of-returns-in_ok-values-in-Call g t c =
@@ -175,7 +191,8 @@ expressions::value_of-returns-in_ok-values-in-Call g t c =
 
 pub expressions::value_of-bound_values-found-requires : goal.expressions::value_of-bound_values-found-requires
 expressions::value_of-bound_values-found-requires g t c κs within =
-    (binds_fall (total (bind_room (call_room c.args.known.now c.args.depth)) c.as_slice-binds.result.now) (room (call_room c.args.known.now c.args.depth) c.args.e.now) (ap (room (call_room c.args.known.now c.args.depth)) (rw c.as_slice-binds.ensures c.in-Struct.is) ∙ struct_room (call_room c.args.known.now c.args.depth) c.in-Struct.name c.as_slice-binds.result.now), within)
+    let falls : (total (bind_room (call_room c.args.known.now c.args.depth)) c.as_slice-binds.result.now) + 1 < (room (call_room c.args.known.now c.args.depth) c.args.e.now) = binds_fall (total (bind_room (call_room c.args.known.now c.args.depth)) c.as_slice-binds.result.now) (room (call_room c.args.known.now c.args.depth) c.args.e.now) (ap (room (call_room c.args.known.now c.args.depth)) (rw c.as_slice-binds.ensures c.in-Struct.is) ∙ struct_room (call_room c.args.known.now c.args.depth) c.in-Struct.name c.as_slice-binds.result.now) in
+    (omega arith, within)
 
 pub expressions::value_of-returns-in-Struct : goal.expressions::value_of-returns-in-Struct
 expressions::value_of-returns-in-Struct g t c =
@@ -183,7 +200,8 @@ expressions::value_of-returns-in-Struct g t c =
 
 pub expressions::value_of-wanted_of-found-requires : goal.expressions::value_of-wanted_of-found-requires
 expressions::value_of-wanted_of-found-requires g t c κs within =
-    (only_falls (pattern_takes (call_room c.args.known.now c.args.depth) c.in-Query.p) (room (call_room c.args.known.now c.args.depth) c.args.e.now) (ap (room (call_room c.args.known.now c.args.depth)) c.in-Query.is ∙ query_room (call_room c.args.known.now c.args.depth) c.in-Query.p), within)
+    let falls : (pattern_takes (call_room c.args.known.now c.args.depth) c.in-Query.p) < (room (call_room c.args.known.now c.args.depth) c.args.e.now) = only_falls (pattern_takes (call_room c.args.known.now c.args.depth) c.in-Query.p) (room (call_room c.args.known.now c.args.depth) c.args.e.now) (ap (room (call_room c.args.known.now c.args.depth)) c.in-Query.is ∙ query_room (call_room c.args.known.now c.args.depth) c.in-Query.p) in
+    (omega arith, within)
 
 pub expressions::value_of-returns-in-Query : goal.expressions::value_of-returns-in-Query
 expressions::value_of-returns-in-Query g t c =
@@ -191,7 +209,8 @@ expressions::value_of-returns-in-Query g t c =
 
 pub expressions::value_of-wanted_of-found-requires-in-Exists : goal.expressions::value_of-wanted_of-found-requires-in-Exists
 expressions::value_of-wanted_of-found-requires-in-Exists g t c κs within =
-    (only_falls (pattern_takes (call_room c.args.known.now c.args.depth) c.in-Exists.p) (room (call_room c.args.known.now c.args.depth) c.args.e.now) (ap (room (call_room c.args.known.now c.args.depth)) c.in-Exists.is ∙ exists_room (call_room c.args.known.now c.args.depth) c.in-Exists.p), within)
+    let falls : (pattern_takes (call_room c.args.known.now c.args.depth) c.in-Exists.p) < (room (call_room c.args.known.now c.args.depth) c.args.e.now) = only_falls (pattern_takes (call_room c.args.known.now c.args.depth) c.in-Exists.p) (room (call_room c.args.known.now c.args.depth) c.args.e.now) (ap (room (call_room c.args.known.now c.args.depth)) c.in-Exists.is ∙ exists_room (call_room c.args.known.now c.args.depth) c.in-Exists.p) in
+    (omega arith, within)
 
 pub expressions::value_of-returns-in-Exists : goal.expressions::value_of-returns-in-Exists
 expressions::value_of-returns-in-Exists g t c =
@@ -199,7 +218,8 @@ expressions::value_of-returns-in-Exists g t c =
 
 pub expressions::value_of-wanted_of-found-requires-in-Count : goal.expressions::value_of-wanted_of-found-requires-in-Count
 expressions::value_of-wanted_of-found-requires-in-Count g t c κs within =
-    (only_falls (pattern_takes (call_room c.args.known.now c.args.depth) c.in-Count.p) (room (call_room c.args.known.now c.args.depth) c.args.e.now) (ap (room (call_room c.args.known.now c.args.depth)) c.in-Count.is ∙ count_room (call_room c.args.known.now c.args.depth) c.in-Count.op c.in-Count.n c.in-Count.p), within)
+    let falls : (pattern_takes (call_room c.args.known.now c.args.depth) c.in-Count.p) < (room (call_room c.args.known.now c.args.depth) c.args.e.now) = only_falls (pattern_takes (call_room c.args.known.now c.args.depth) c.in-Count.p) (room (call_room c.args.known.now c.args.depth) c.args.e.now) (ap (room (call_room c.args.known.now c.args.depth)) c.in-Count.is ∙ count_room (call_room c.args.known.now c.args.depth) c.in-Count.op c.in-Count.n c.in-Count.p) in
+    (omega arith, within)
 
 pub expressions::value_of-returns-in-Count : goal.expressions::value_of-returns-in-Count
 expressions::value_of-returns-in-Count g t c =
@@ -207,7 +227,8 @@ expressions::value_of-returns-in-Count g t c =
 
 pub expressions::value_of-value_of-head-requires : goal.expressions::value_of-value_of-head-requires
 expressions::value_of-value_of-head-requires g t c κs within =
-    (head_falls (room (call_room c.args.known.now c.args.depth) c.get-x.result.now.head) (block_takes (call_room c.args.known.now c.args.depth) c.get-x.result.now.then) (else_takes (call_room c.args.known.now c.args.depth) c.get-x.result.now.otherwise) (room (call_room c.args.known.now c.args.depth) c.args.e.now) (ap (room (call_room c.args.known.now c.args.depth)) (rw c.get-x.ensures c.in-If.is) ∙ choice_room (call_room c.args.known.now c.args.depth) c.get-x.result.now), within)
+    let falls : (room (call_room c.args.known.now c.args.depth) c.get-x.result.now.head) < (room (call_room c.args.known.now c.args.depth) c.args.e.now) = head_falls (room (call_room c.args.known.now c.args.depth) c.get-x.result.now.head) (block_takes (call_room c.args.known.now c.args.depth) c.get-x.result.now.then) (else_takes (call_room c.args.known.now c.args.depth) c.get-x.result.now.otherwise) (room (call_room c.args.known.now c.args.depth) c.args.e.now) (ap (room (call_room c.args.known.now c.args.depth)) (rw c.get-x.ensures c.in-If.is) ∙ choice_room (call_room c.args.known.now c.args.depth) c.get-x.result.now) in
+    (omega arith, within)
 
 pub expressions::value_of-returns-in_err-test-in-If : goal.expressions::value_of-returns-in_err-test-in-If
 expressions::value_of-returns-in_err-test-in-If g t c =
@@ -217,7 +238,8 @@ expressions::value_of-returns-in_err-test-in-If g t c =
 
 pub expressions::value_of-block_value-requires : goal.expressions::value_of-block_value-requires
 expressions::value_of-block_value-requires g t c κs within =
-    (block_falls (room (call_room c.args.known.now c.args.depth) c.get-x.result.now.head) (block_takes (call_room c.args.known.now c.args.depth) c.get-x.result.now.then) (else_takes (call_room c.args.known.now c.args.depth) c.get-x.result.now.otherwise) (room (call_room c.args.known.now c.args.depth) c.args.e.now) (ap (room (call_room c.args.known.now c.args.depth)) (rw c.get-x.ensures c.in-If.is) ∙ choice_room (call_room c.args.known.now c.args.depth) c.get-x.result.now), within)
+    let falls : (block_takes (call_room c.args.known.now c.args.depth) c.get-x.result.now.then) < (room (call_room c.args.known.now c.args.depth) c.args.e.now) = block_falls (room (call_room c.args.known.now c.args.depth) c.get-x.result.now.head) (block_takes (call_room c.args.known.now c.args.depth) c.get-x.result.now.then) (else_takes (call_room c.args.known.now c.args.depth) c.get-x.result.now.otherwise) (room (call_room c.args.known.now c.args.depth) c.args.e.now) (ap (room (call_room c.args.known.now c.args.depth)) (rw c.get-x.ensures c.in-If.is) ∙ choice_room (call_room c.args.known.now c.args.depth) c.get-x.result.now) in
+    (omega arith, within)
 
 pub expressions::value_of-returns-then-test-3 : goal.expressions::value_of-returns-then-test-3
 expressions::value_of-returns-then-test-3 g t c =
@@ -225,7 +247,8 @@ expressions::value_of-returns-then-test-3 g t c =
 
 pub expressions::value_of-else_value-requires : goal.expressions::value_of-else_value-requires
 expressions::value_of-else_value-requires g t c κs within =
-    (else_falls (room (call_room c.args.known.now c.args.depth) c.get-x.result.now.head) (block_takes (call_room c.args.known.now c.args.depth) c.get-x.result.now.then) (else_takes (call_room c.args.known.now c.args.depth) c.get-x.result.now.otherwise) (room (call_room c.args.known.now c.args.depth) c.args.e.now) (ap (room (call_room c.args.known.now c.args.depth)) (rw c.get-x.ensures c.in-If.is) ∙ choice_room (call_room c.args.known.now c.args.depth) c.get-x.result.now), within)
+    let falls : (else_takes (call_room c.args.known.now c.args.depth) c.get-x.result.now.otherwise) + 1 < (room (call_room c.args.known.now c.args.depth) c.args.e.now) = else_falls (room (call_room c.args.known.now c.args.depth) c.get-x.result.now.head) (block_takes (call_room c.args.known.now c.args.depth) c.get-x.result.now.then) (else_takes (call_room c.args.known.now c.args.depth) c.get-x.result.now.otherwise) (room (call_room c.args.known.now c.args.depth) c.args.e.now) (ap (room (call_room c.args.known.now c.args.depth)) (rw c.get-x.ensures c.in-If.is) ∙ choice_room (call_room c.args.known.now c.args.depth) c.get-x.result.now) in
+    (omega arith, within)
 
 pub expressions::value_of-returns-else-test-3 : goal.expressions::value_of-returns-else-test-3
 expressions::value_of-returns-else-test-3 g t c =
@@ -233,19 +256,23 @@ expressions::value_of-returns-else-test-3 g t c =
 
 pub expressions::values_of-value_of-found-requires : goal.expressions::values_of-value_of-found-requires
 expressions::values_of-value_of-found-requires g t c κs within =
-    (item_falls (room (call_room c.args.known.now c.args.depth)) c.args.es.now c.loop-e.e-index c.e-item.result c.loop-e-test.true c.e-item.is, within)
+    let falls : (room (call_room c.args.known.now c.args.depth)) (c.e-item.result) < total (room (call_room c.args.known.now c.args.depth)) (c.args.es.now) + 1 = item_falls (room (call_room c.args.known.now c.args.depth)) c.args.es.now c.loop-e.e-index c.e-item.result c.loop-e-test.true c.e-item.is in
+    (omega arith, within)
 
 pub expressions::bound_values-value_of-found-requires : goal.expressions::bound_values-value_of-found-requires
 expressions::bound_values-value_of-found-requires g t c κs within =
-    (item_falls (bind_room (call_room c.args.known.now c.args.depth)) c.args.binds.now c.loop-bind.bind-index c.bind-item.result c.loop-bind-test.true c.bind-item.is, within)
+    let falls : (bind_room (call_room c.args.known.now c.args.depth)) (c.bind-item.result) < total (bind_room (call_room c.args.known.now c.args.depth)) (c.args.binds.now) + 1 = item_falls (bind_room (call_room c.args.known.now c.args.depth)) c.args.binds.now c.loop-bind.bind-index c.bind-item.result c.loop-bind-test.true c.bind-item.is in
+    (omega arith, within)
 
 pub expressions::free_values-value_of-found-requires : goal.expressions::free_values-value_of-found-requires
 expressions::free_values-value_of-found-requires g t c κs within =
-    (gap_falls (call_room c.args.known.now c.args.depth) c.args.frees.now c.loop-free.free-index c.free-item.result c.in-Some.e c.loop-free-test.true c.free-item.is c.in-Some.is, within)
+    let falls : room (call_room c.args.known.now c.args.depth) (c.in-Some.e) < total (free_room (call_room c.args.known.now c.args.depth)) (c.args.frees.now) + 1 = gap_falls (call_room c.args.known.now c.args.depth) c.args.frees.now c.loop-free.free-index c.free-item.result c.in-Some.e c.loop-free-test.true c.free-item.is c.in-Some.is in
+    (omega arith, within)
 
 pub expressions::value_within-value_of-found-requires : goal.expressions::value_within-value_of-found-requires
 expressions::value_within-value_of-found-requires g t c κs within =
-    (let_falls (call_room c.args.known.now c.args.depth) c.args.b.now c.as_slice-one-items.result.now c.loop-one.one-index c.one-item.result c.as_slice-one-items.ensures c.loop-one-test.true c.one-item.is, within)
+    let falls : room (call_room c.args.known.now c.args.depth) (c.one-item.result.value) < total (let_room (call_room c.args.known.now c.args.depth)) c.args.b.now.lets + room (call_room c.args.known.now c.args.depth) c.args.b.now.value + 1 = let_falls (call_room c.args.known.now c.args.depth) c.args.b.now c.as_slice-one-items.result.now c.loop-one.one-index c.one-item.result c.as_slice-one-items.ensures c.loop-one-test.true c.one-item.is in
+    (omega arith, within)
 
 pub expressions::free_values-returns-in_err-push_gap : goal.expressions::free_values-returns-in_err-push_gap
 expressions::free_values-returns-in_err-push_gap g t c =
@@ -271,7 +298,8 @@ expressions::wanted_of-returns-clause-gives g t c =
 
 pub statements::run-value_of-found-requires : goal.statements::run-value_of-found-requires
 statements::run-value_of-found-requires g t c κs within =
-    (only_falls (room (call_room c.args.known.now c.args.depth) c.in-Let.one.value) (stmt_room (call_room c.args.known.now c.args.depth) c.args.s.now) (ap (stmt_room (call_room c.args.known.now c.args.depth)) c.in-Let.is ∙ let_stmt_room (call_room c.args.known.now c.args.depth) c.in-Let.one), within)
+    let falls : (room (call_room c.args.known.now c.args.depth) c.in-Let.one.value) < (stmt_room (call_room c.args.known.now c.args.depth) c.args.s.now) = only_falls (room (call_room c.args.known.now c.args.depth) c.in-Let.one.value) (stmt_room (call_room c.args.known.now c.args.depth) c.args.s.now) (ap (stmt_room (call_room c.args.known.now c.args.depth)) c.in-Let.is ∙ let_stmt_room (call_room c.args.known.now c.args.depth) c.in-Let.one) in
+    (omega arith, within)
 
 pub statements::run-returns-in-Let : goal.statements::run-returns-in-Let
 statements::run-returns-in-Let g t c =
@@ -279,7 +307,8 @@ statements::run-returns-in-Let g t c =
 
 pub statements::run-value_of-found-requires-in-Check : goal.statements::run-value_of-found-requires-in-Check
 statements::run-value_of-found-requires-in-Check g t c κs within =
-    (only_falls (room (call_room c.args.known.now c.args.depth) c.in-Check.e) (stmt_room (call_room c.args.known.now c.args.depth) c.args.s.now) (ap (stmt_room (call_room c.args.known.now c.args.depth)) c.in-Check.is ∙ check_room (call_room c.args.known.now c.args.depth) c.in-Check.e), within)
+    let falls : (room (call_room c.args.known.now c.args.depth) c.in-Check.e) < (stmt_room (call_room c.args.known.now c.args.depth) c.args.s.now) = only_falls (room (call_room c.args.known.now c.args.depth) c.in-Check.e) (stmt_room (call_room c.args.known.now c.args.depth) c.args.s.now) (ap (stmt_room (call_room c.args.known.now c.args.depth)) c.in-Check.is ∙ check_room (call_room c.args.known.now c.args.depth) c.in-Check.e) in
+    (omega arith, within)
 
 pub statements::run-returns-in-Check : goal.statements::run-returns-in-Check
 statements::run-returns-in-Check g t c =
@@ -287,7 +316,8 @@ statements::run-returns-in-Check g t c =
 
 pub statements::run-value_of-head-requires : goal.statements::run-value_of-head-requires
 statements::run-value_of-head-requires g t c κs within =
-    (if_head_falls (room (call_room c.args.known.now c.args.depth) c.in-If.x.head) (total (stmt_room (call_room c.args.known.now c.args.depth)) c.in-If.x.then) (else_stmt_takes (call_room c.args.known.now c.args.depth) c.in-If.x.otherwise) (stmt_room (call_room c.args.known.now c.args.depth) c.args.s.now) (ap (stmt_room (call_room c.args.known.now c.args.depth)) c.in-If.is ∙ if_room (call_room c.args.known.now c.args.depth) c.in-If.x), within)
+    let falls : (room (call_room c.args.known.now c.args.depth) c.in-If.x.head) < (stmt_room (call_room c.args.known.now c.args.depth) c.args.s.now) = if_head_falls (room (call_room c.args.known.now c.args.depth) c.in-If.x.head) (total (stmt_room (call_room c.args.known.now c.args.depth)) c.in-If.x.then) (else_stmt_takes (call_room c.args.known.now c.args.depth) c.in-If.x.otherwise) (stmt_room (call_room c.args.known.now c.args.depth) c.args.s.now) (ap (stmt_room (call_room c.args.known.now c.args.depth)) c.in-If.is ∙ if_room (call_room c.args.known.now c.args.depth) c.in-If.x) in
+    (omega arith, within)
 
 pub statements::run-returns-in_err-test-in-If : goal.statements::run-returns-in_err-test-in-If
 statements::run-returns-in_err-test-in-If g t c =
@@ -297,7 +327,8 @@ statements::run-returns-in_err-test-in-If g t c =
 
 pub statements::run-run_all-flow-requires : goal.statements::run-run_all-flow-requires
 statements::run-run_all-flow-requires g t c κs within =
-    (if_body_falls (room (call_room c.args.known.now c.args.depth) c.in-If.x.head) (total (stmt_room (call_room c.args.known.now c.args.depth)) c.as_slice-body.result.now) (else_stmt_takes (call_room c.args.known.now c.args.depth) c.in-If.x.otherwise) (stmt_room (call_room c.args.known.now c.args.depth) c.args.s.now) ((ap (stmt_room (call_room c.args.known.now c.args.depth)) c.in-If.is ∙ if_room (call_room c.args.known.now c.args.depth) c.in-If.x) ∙ ap (λ body. room (call_room c.args.known.now c.args.depth) c.in-If.x.head + total (stmt_room (call_room c.args.known.now c.args.depth)) body + else_stmt_takes (call_room c.args.known.now c.args.depth) c.in-If.x.otherwise + 3) (sym c.as_slice-body.ensures)), within)
+    let falls : (total (stmt_room (call_room c.args.known.now c.args.depth)) c.as_slice-body.result.now) + 1 < (stmt_room (call_room c.args.known.now c.args.depth) c.args.s.now) = if_body_falls (room (call_room c.args.known.now c.args.depth) c.in-If.x.head) (total (stmt_room (call_room c.args.known.now c.args.depth)) c.as_slice-body.result.now) (else_stmt_takes (call_room c.args.known.now c.args.depth) c.in-If.x.otherwise) (stmt_room (call_room c.args.known.now c.args.depth) c.args.s.now) ((ap (stmt_room (call_room c.args.known.now c.args.depth)) c.in-If.is ∙ if_room (call_room c.args.known.now c.args.depth) c.in-If.x) ∙ ap (λ body. room (call_room c.args.known.now c.args.depth) c.in-If.x.head + total (stmt_room (call_room c.args.known.now c.args.depth)) body + else_stmt_takes (call_room c.args.known.now c.args.depth) c.in-If.x.otherwise + 3) (sym c.as_slice-body.ensures)) in
+    (omega arith, within)
 
 pub statements::run-returns-then-test : goal.statements::run-returns-then-test
 statements::run-returns-then-test g t c =
@@ -306,7 +337,8 @@ statements::run-returns-then-test g t c =
 
 pub statements::run-run_else-flow-requires : goal.statements::run-run_else-flow-requires
 statements::run-run_else-flow-requires g t c κs within =
-    (if_rest_falls (room (call_room c.args.known.now c.args.depth) c.in-If.x.head) (total (stmt_room (call_room c.args.known.now c.args.depth)) c.in-If.x.then) (else_stmt_takes (call_room c.args.known.now c.args.depth) c.in-If.x.otherwise) (stmt_room (call_room c.args.known.now c.args.depth) c.args.s.now) (ap (stmt_room (call_room c.args.known.now c.args.depth)) c.in-If.is ∙ if_room (call_room c.args.known.now c.args.depth) c.in-If.x), within)
+    let falls : (else_stmt_takes (call_room c.args.known.now c.args.depth) c.in-If.x.otherwise) + 1 < (stmt_room (call_room c.args.known.now c.args.depth) c.args.s.now) = if_rest_falls (room (call_room c.args.known.now c.args.depth) c.in-If.x.head) (total (stmt_room (call_room c.args.known.now c.args.depth)) c.in-If.x.then) (else_stmt_takes (call_room c.args.known.now c.args.depth) c.in-If.x.otherwise) (stmt_room (call_room c.args.known.now c.args.depth) c.args.s.now) (ap (stmt_room (call_room c.args.known.now c.args.depth)) c.in-If.is ∙ if_room (call_room c.args.known.now c.args.depth) c.in-If.x) in
+    (omega arith, within)
 
 pub statements::run-returns-else-test : goal.statements::run-returns-else-test
 statements::run-returns-else-test g t c =
@@ -315,7 +347,8 @@ statements::run-returns-else-test g t c =
 
 pub statements::run-value_of-found-requires-in-Match : goal.statements::run-value_of-found-requires-in-Match
 statements::run-value_of-found-requires-in-Match g t c κs within =
-    (match_head_falls (room (call_room c.args.known.now c.args.depth) c.in-Match.e) (total (arm_room (call_room c.args.known.now c.args.depth)) c.as_slice-arms.result.now) (stmt_room (call_room c.args.known.now c.args.depth) c.args.s.now) (ap (stmt_room (call_room c.args.known.now c.args.depth)) (rw c.as_slice-arms.ensures c.in-Match.is) ∙ match_room (call_room c.args.known.now c.args.depth) c.in-Match.e c.as_slice-arms.result.now), within)
+    let falls : (room (call_room c.args.known.now c.args.depth) c.in-Match.e) < (stmt_room (call_room c.args.known.now c.args.depth) c.args.s.now) = match_head_falls (room (call_room c.args.known.now c.args.depth) c.in-Match.e) (total (arm_room (call_room c.args.known.now c.args.depth)) c.as_slice-arms.result.now) (stmt_room (call_room c.args.known.now c.args.depth) c.args.s.now) (ap (stmt_room (call_room c.args.known.now c.args.depth)) (rw c.as_slice-arms.ensures c.in-Match.is) ∙ match_room (call_room c.args.known.now c.args.depth) c.in-Match.e c.as_slice-arms.result.now) in
+    (omega arith, within)
 
 pub statements::run-returns-in_err-body-in-Match : goal.statements::run-returns-in_err-body-in-Match
 statements::run-returns-in_err-body-in-Match g t c =
@@ -325,7 +358,8 @@ statements::run-returns-in_err-body-in-Match g t c =
 
 pub statements::run-run_all-flow-requires-in-Match : goal.statements::run-run_all-flow-requires-in-Match
 statements::run-run_all-flow-requires-in-Match g t c κs within =
-    (match_body_falls (room (call_room c.args.known.now c.args.depth) c.in-Match.e) (total (arm_room (call_room c.args.known.now c.args.depth)) c.as_slice-arms.result.now) (total (stmt_room (call_room c.args.known.now c.args.depth)) c.in_ok-body-in-Match.body.now) (stmt_room (call_room c.args.known.now c.args.depth) c.args.s.now) (c.in_ok-body-in-Match.ensures.among (call_room c.args.known.now c.args.depth)) (ap (stmt_room (call_room c.args.known.now c.args.depth)) (rw c.as_slice-arms.ensures c.in-Match.is) ∙ match_room (call_room c.args.known.now c.args.depth) c.in-Match.e c.as_slice-arms.result.now), within)
+    let falls : (total (stmt_room (call_room c.args.known.now c.args.depth)) c.in_ok-body-in-Match.body.now) + 1 < (stmt_room (call_room c.args.known.now c.args.depth) c.args.s.now) = match_body_falls (room (call_room c.args.known.now c.args.depth) c.in-Match.e) (total (arm_room (call_room c.args.known.now c.args.depth)) c.as_slice-arms.result.now) (total (stmt_room (call_room c.args.known.now c.args.depth)) c.in_ok-body-in-Match.body.now) (stmt_room (call_room c.args.known.now c.args.depth) c.args.s.now) (c.in_ok-body-in-Match.ensures.among (call_room c.args.known.now c.args.depth)) (ap (stmt_room (call_room c.args.known.now c.args.depth)) (rw c.as_slice-arms.ensures c.in-Match.is) ∙ match_room (call_room c.args.known.now c.args.depth) c.in-Match.e c.as_slice-arms.result.now) in
+    (omega arith, within)
 
 pub statements::run-returns-in_ok-body-in-Match : goal.statements::run-returns-in_ok-body-in-Match
 statements::run-returns-in_ok-body-in-Match g t c =
@@ -334,7 +368,7 @@ statements::run-returns-in_ok-body-in-Match g t c =
 
 pub statements::run-returns-in-Finish : goal.statements::run-returns-in-Finish
 statements::run-returns-in-Finish g t c =
-    by_itself (λ (lists : Lists). stmt_meant c.args.known.now (g.F.FactBase.rows c.args.facts.now) c.args.setting.now c.args.depth lists c.args.s.now) c.args.env.now c.args.turns.now (λ lists. (c.args.env.now, (λ lists. ap (λ (s : Stmt). stmt_meant c.args.known.now (g.F.FactBase.rows c.args.facts.now) c.args.setting.now c.args.depth lists s c.args.env.now c.args.turns.now) (rw c.as_slice-statements.ensures c.in-Finish.is) ∙ finish_does c.args.known.now (g.F.FactBase.rows c.args.facts.now) c.args.setting.now c.args.depth lists c.args.env.now c.args.turns.now c.as_slice-statements.result.now) lists))
+    by_itself (λ (lists : Lists). stmt_meant c.args.known.now (g.F.FactBase.rows c.args.facts.now) c.args.setting.now c.args.depth lists c.args.s.now) c.args.env.now c.args.turns.now (λ lists. (c.args.env.now, ap (λ (s : Stmt). stmt_meant c.args.known.now (g.F.FactBase.rows c.args.facts.now) c.args.setting.now c.args.depth lists s c.args.env.now c.args.turns.now) (rw c.as_slice-statements.ensures c.in-Finish.is) ∙ finish_does c.args.known.now (g.F.FactBase.rows c.args.facts.now) c.args.setting.now c.args.depth lists c.args.env.now c.args.turns.now c.as_slice-statements.result.now))
 
 pub statements::run-returns-in-Map : goal.statements::run-returns-in-Map
 statements::run-returns-in-Map g t c =
@@ -346,7 +380,8 @@ statements::run-returns-in-Publish g t c =
 
 pub statements::run-value_of-found-requires-in-Return : goal.statements::run-value_of-found-requires-in-Return
 statements::run-value_of-found-requires-in-Return g t c κs within =
-    (only_falls (room (call_room c.args.known.now c.args.depth) c.in-Return.e) (stmt_room (call_room c.args.known.now c.args.depth) c.args.s.now) (ap (stmt_room (call_room c.args.known.now c.args.depth)) c.in-Return.is ∙ return_room (call_room c.args.known.now c.args.depth) c.in-Return.e), within)
+    let falls : (room (call_room c.args.known.now c.args.depth) c.in-Return.e) < (stmt_room (call_room c.args.known.now c.args.depth) c.args.s.now) = only_falls (room (call_room c.args.known.now c.args.depth) c.in-Return.e) (stmt_room (call_room c.args.known.now c.args.depth) c.args.s.now) (ap (stmt_room (call_room c.args.known.now c.args.depth)) c.in-Return.is ∙ return_room (call_room c.args.known.now c.args.depth) c.in-Return.e) in
+    (omega arith, within)
 
 pub statements::run-returns-in-Return : goal.statements::run-returns-in-Return
 statements::run-returns-in-Return g t c =
@@ -354,7 +389,8 @@ statements::run-returns-in-Return g t c =
 
 pub statements::run_all-run-flow-requires : goal.statements::run_all-run-flow-requires
 statements::run_all-run-flow-requires g t c κs within =
-    (item_falls (stmt_room (call_room c.args.known.now c.args.depth)) c.args.body.now c.loop-s.s-index c.s-item.result c.loop-s-test.true c.s-item.is, within)
+    let falls : (stmt_room (call_room c.args.known.now c.args.depth)) (c.s-item.result) < total (stmt_room (call_room c.args.known.now c.args.depth)) (c.args.body.now) + 1 = item_falls (stmt_room (call_room c.args.known.now c.args.depth)) c.args.body.now c.loop-s.s-index c.s-item.result c.loop-s-test.true c.s-item.is in
+    (omega arith, within)
 
 pub statements::run_all-returns-then-not-goes : goal.statements::run_all-returns-then-not-goes
 statements::run_all-returns-then-not-goes g t c =
@@ -367,3 +403,13 @@ statements::run_all-loop-s-preserved g t c =
 pub statements::run_all-returns : goal.statements::run_all-returns
 statements::run_all-returns g t c =
     all_through c.args.known.now (g.F.FactBase.rows c.args.facts.now) c.args.setting.now c.args.depth c.loop-s.invariant (omega arith)
+
+pub calls::called-run_all-flow-requires : goal.calls::called-run_all-flow-requires
+calls::called-run_all-flow-requires g t c κs within =
+    let falls : (total (stmt_room (call_room c.args.known.now (c.args.depth - 1))) c.in-Some.callee.body.now) + 1 < call_room c.args.known.now c.args.depth + 1 = body_falls c.args.known.now c.args.depth (total (stmt_room (call_room c.args.known.now (c.args.depth - 1))) c.in-Some.callee.body.now) (omega arith) (body_among c.args.known.now c.args.name.now (c.in-Some.callee.parameters.now, c.in-Some.callee.body.now) (sym c.in-Some.ensures) (call_room c.args.known.now (c.args.depth - 1))) in
+    (omega arith, within)
+
+pub calls::called-returns : goal.calls::called-returns
+calls::called-returns g t c =
+    called_on c.args.known.now (g.F.FactBase.rows c.args.facts.now) c.args.name.now c.args.values c.args.depth c.args.turns.now c.take_turn.new.turns c.run_all-flow.new.turns (c.in-Some.callee.parameters.now, c.in-Some.callee.body.now) c.in_ok-env.env c.run_all-flow.new.env c.returned.result c.run_all-flow.result (omega arith) (sym c.in-Some.ensures)
+    c.in_ok-take_turn.ensures c.in_ok-env.ensures (subst (λ setting. Runs c.run_all-flow.result (λ lists. stmts_meant c.args.known.now (g.F.FactBase.rows c.args.facts.now) setting (c.args.depth - 1) lists c.in-Some.callee.body.now) c.in_ok-env.env c.run_all-flow.new.env c.take_turn.new.turns c.run_all-flow.new.turns) c.none-setting.ensures c.run_all-flow.ensures) c.returned.ensures
