@@ -1,0 +1,6 @@
+-- Lemmas of this crate.
+pub mod Evaluating
+pub mod Loops
+pub mod Running
+pub mod RoomForms
+pub mod Flows
