@@ -1,0 +1,30 @@
+-- What statements of actions do, under names that proofs of code keep shut.
+use Rattle.std.specs.Prelude.{List, [], ◌∷◌, Option, Some, None}
+use Rattle.policy_ast.specs.declared.item.Item.{Item}
+use Rattle.policy_ast.specs.declared.statement.Else.{Else}
+use Rattle.policy_ast.specs.declared.statement.Else.TheVariants as else_stmt
+use Rattle.policy_ast.specs.declared.statement.Stmt.{Stmt}
+use Rattle.policy_meaning.specs.Actions.{Act, Did, Halts, Stops, ◌>>>◌, act}
+use Rattle.policy_meaning.specs.Environments.{Setting}
+use Rattle.policy_meaning.specs.Functions.{expression}
+use Rattle.policy_meaning.specs.Outcomes.{Stuck}
+
+-- what one statement does
+unfoldable pub deed : List Item → Setting → Stmt → Act
+deed items setting s = act items (λ rows. expression items rows setting) s
+
+-- statements one after another
+abbrev pub deeds : List Item → Setting → List Stmt → Act
+deeds items setting [] env w = Did env w
+deeds items setting (s ∷ more) env w = deed items setting s env w >>> deeds items setting more
+
+-- what follows `else`, if anything
+abbrev pub else_deed : List Item → Setting → Option (Else Stmt) → Act
+else_deed items setting None env w = Did env w
+else_deed items setting (Some (else_stmt.Block body)) env w = deeds items setting body env w
+else_deed items setting (Some (else_stmt.If s)) env w = deed items setting s env w
+
+-- the arm that takes the value
+abbrev pub arm_deed : List Item → Setting → Option (List Stmt) → Act
+arm_deed items setting (Some body) env w = deeds items setting body env w
+arm_deed items setting None env w = Stops (Halts Stuck) w

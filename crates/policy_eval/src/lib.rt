@@ -1,0 +1,2 @@
+//! The plain form of running a policy: what walks its tree.
+#![tactic(auto)]
