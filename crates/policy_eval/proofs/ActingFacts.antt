@@ -49,22 +49,6 @@ module _ {D : Type 0} (publishes : D → List Row → Posting → D → Type 0) 
       acts = λ left made. ap (λ n. after_answer posted (world new.rows left (made ++ record { command = command; fields = fields } ∷ []) n)) (sym turns);
     }
 
-    -- a part of what is left to do
-    pub acted_on : {A B : Type 0} (deed : World → Deed B) (first rest : World → Deed A) (next : A → World → Deed B) (old mid new : Standing D)
-        → Acted publishes policy deed (λ w. first w >>> next) old mid → Acted publishes policy first rest mid new → Acted publishes policy deed (λ w. rest w >>> next) old new
-    acted_on deed first rest next old mid new a b = record {
-      postings = a.postings ++ b.postings;
-      chain = chain_both a.postings b.postings old.desk mid.desk new.desk old.rows mid.rows new.rows a.chain b.chain;
-      counted = let sum = sum_by-append (λ p. p.ticks) a.postings b.postings in let one = a.counted in let two = b.counted in omega (arith, sum, one, two);
-      answers = subst (LeaveTyped policy) (sym (map-append answer a.postings b.postings)) (typed_both policy (map answer a.postings) (map answer b.postings) a.answers b.answers);
-      typed = b.typed;
-      acts = λ left made.
-          ap (λ xs. deed (world old.rows xs made old.turns)) (ap (λ xs. xs ++ left) (map-append answer a.postings b.postings) ∙ append_assoc (map answer a.postings) (map answer b.postings) left)
-          ∙ a.acts (map answer b.postings ++ left) made
-          ∙ ap (λ d. d >>> next) (b.acts left (made ++ map brought a.postings))
-          ∙ ap (λ m. rest (world new.rows left m new.turns) >>> next) (append_assoc made (map brought a.postings) (map brought b.postings) ∙ sym (ap (λ xs. made ++ xs) (map-append brought a.postings b.postings)));
-    }
-
     -- all of what is left to do
     pub acted_all : {A : Type 0} (deed first rest : World → Deed A) (old mid new : Standing D)
         → Acted publishes policy deed first old mid → Acted publishes policy first rest mid new → Acted publishes policy deed rest old new
@@ -80,6 +64,23 @@ module _ {D : Type 0} (publishes : D → List Row → Posting → D → Type 0) 
           ∙ b.acts left (made ++ map brought a.postings)
           ∙ ap (λ m. rest (world new.rows left m new.turns)) (append_assoc made (map brought a.postings) (map brought b.postings) ∙ sym (ap (λ xs. made ++ xs) (map-append brought a.postings b.postings)));
     }
+
+    -- whatever follows
+    pub acted_then : {A B : Type 0} (deed rest : World → Deed A) (next : A → World → Deed B) (old new : Standing D)
+        → Acted publishes policy deed rest old new → Acted publishes policy (λ w. deed w >>> next) (λ w. rest w >>> next) old new
+    acted_then deed rest next old new a = record {
+      postings = a.postings;
+      chain = a.chain;
+      counted = a.counted;
+      answers = a.answers;
+      typed = a.typed;
+      acts = λ left made. ap (λ d. d >>> next) (a.acts left made);
+    }
+
+    -- the first part of what is left to do
+    pub acted_on : {A B : Type 0} (deed : World → Deed B) (first rest : World → Deed A) (next : A → World → Deed B) (old mid new : Standing D)
+        → Acted publishes policy deed (λ w. first w >>> next) old mid → Acted publishes policy first rest mid new → Acted publishes policy deed (λ w. rest w >>> next) old new
+    acted_on deed first rest next old mid new a b = acted_all deed (λ w. first w >>> next) (λ w. rest w >>> next) old mid new a (acted_then first rest next mid new b)
 
     -- what comes to the same
     pub acted_as : {A : Type 0} (deed other rest : World → Deed A) (old new : Standing D) → ((w : World) → deed w ≡ other w) → Acted publishes policy other rest old new → Acted publishes policy deed rest old new

@@ -1,11 +1,16 @@
 -- What a part of an action at a desk tells: the postings that it made, and what it means where the desk answers so.
-use Rattle.std.specs.Prelude.{◌≡◌, ℕ, ◌+◌, List, ◌++◌, map}
+use Rattle.std.specs.Prelude.{◌≡◌, ℕ, ◌+◌, List, ◌++◌, map, Option, Some, None, Result, Ok, Err}
 use Rattle.fact_store.specs.declared.row.Row.{Row}
 use Rattle.policy_ast.specs.declared.policy.PlacedItem.{PlacedItem}
+use Rattle.policy_expressions.specs.declared.stop.Stop.{Stop as Halted}
+use Rattle.policy_expressions.specs.declared.stop.Stop.TheVariants as stop
 use Rattle.policy_meaning.specs.Actions.{Answer, Brought, Deed, Did, Stops, Stop, Halts, IsRefused, Asks, World}
 use Rattle.policy_meaning.specs.Desks.{Chain, Posting, answer, brought, total}
+use Rattle.policy_meaning.specs.Outcomes.{Check, Fault, Stuck}
 use Rattle.policy_meaning.specs.Typed.{AreTyped}
 use Rattle.policy_types.specs.ActsWell.{LeaveTyped, MayStop}
+use Rattle.policy_eval.specs.declared.cause.Cause.{Cause}
+use Rattle.policy_eval.specs.declared.cause.Cause.TheVariants as cause
 
 -- Where an action stands: the desk, the facts, the turns left and the ticks so far.
 pub record Standing (D : Type 0) : Type 0 where
@@ -14,12 +19,15 @@ pub record Standing (D : Type 0) : Type 0 where
   pub turns : ℕ
   pub ticks : ℕ
 
+abbrev pub standing : {D : Type 0} → D → List Row → ℕ → ℕ → Standing D
+standing desk rows turns ticks = record { desk = desk; rows = rows; turns = turns; ticks = ticks }
+
 -- The world in which it stands, with the answers still to come and what was published.
 abbrev pub world : List Row → List Answer → List Brought → ℕ → World
 world rows left made turns = record { rows = rows; left = left; made = made; turns = turns }
 
--- From one standing to another by postings of the desk's relation: with just these answers the one deed comes to the other. The facts behind each
--- answer are typed.
+-- From one standing to another by postings of the desk's relation: with just these answers the one deed comes to what is left to do. The facts behind
+-- each answer are typed.
 pub record Acted {D A : Type 0} (publishes : D → List Row → Posting → D → Type 0) (policy : List PlacedItem) (deed rest : World → Deed A) (old new : Standing D) : Type 0 where
   pub postings : List Posting
   pub chain : Chain publishes old.desk old.rows postings new.desk new.rows
@@ -28,10 +36,44 @@ pub record Acted {D A : Type 0} (publishes : D → List Row → Posting → D �
   pub typed : AreTyped policy new.rows
   pub acts : (left : List Answer) (made : List Brought) → deed (world old.rows (map answer postings ++ left) made old.turns) ≡ rest (world new.rows left (made ++ map brought postings) new.turns)
 
+-- ---- why a part of an action stops
+
+abbrev pub halted : Halted → Option Stop
+halted stop.Check = Some (Halts (Check None))
+halted (stop.Fault kind) = Some (Halts (Fault kind))
+halted stop.Stuck = Some (Halts Stuck)
+halted stop.NoMemory = None
+
+-- The reason, as the definitions have it. Out of memory is none.
+abbrev pub reason : Cause → Option Stop
+reason (cause.Stop why) = halted why
+reason cause.Refused = Some IsRefused
+
+-- What an evaluation gave, as a part of an action.
+abbrev pub caused : {A : Type 0} → Result A Halted → Result A Cause
+caused (Ok x) = Ok x
+caused (Err why) = Err (cause.Stop why)
+
+-- It stopped for this reason, whatever turns were left.
+pub record Stopped {D A : Type 0} (publishes : D → List Row → Posting → D → Type 0) (policy : List PlacedItem) (why : Stop) (deed : World → Deed A) (old new : Standing D) : Type 0 where
+  pub turns : ℕ
+  pub acted : Acted publishes policy deed (Stops why) old (record { desk = new.desk; rows = new.rows; turns = turns; ticks = new.ticks })
+
+abbrev pub StopsFor : {D A : Type 0} → (D → List Row → Posting → D → Type 0) → List PlacedItem → Option Stop → (World → Deed A) → Standing D → Standing D → Type 0
+StopsFor publishes policy None deed old new = Unit {0}
+StopsFor publishes policy (Some why) deed old new = Stopped publishes policy why deed old new
+
+-- It was done, and left this; or it stopped.
+abbrev pub Acts : {D A X : Type 0} → (D → List Row → Posting → D → Type 0) → List PlacedItem → Result X Cause → A → (World → Deed A) → Standing D → Standing D → Type 0
+Acts publishes policy (Ok done) x deed old new = Acted publishes policy deed (Did x) old new
+Acts publishes policy (Err why) x deed old new = StopsFor publishes policy (reason why) deed old new
+
+-- ---- what is known before
+
 -- Where a part of an action stops, it is for one of the reasons for which an action may stop.
 abbrev pub StopsWell : {A : Type 0} → List PlacedItem → Deed A → Type 0
 StopsWell policy (Did x w) = Unit {0}
-StopsWell policy (Stops stop w) = MayStop policy stop
+StopsWell policy (Stops why w) = MayStop policy why
 
 -- Whatever typed facts the desk's answers leave, a part of an action, which has published these, stops for such a reason if it stops.
 pub record GoesWell {A : Type 0} (policy : List PlacedItem) (deed : World → Deed A) (rows : List Row) (turns : ℕ) : Type 0 where

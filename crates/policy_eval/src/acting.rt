@@ -1,0 +1,141 @@
+//! Statements of actions.
+
+ghost use Rattle.std.specs.Prelude.{◌≡◌, ℕ, List, IfOk, IfSome, IsTrue, OnOk};
+ghost use Rattle.std.specs.Option.{option_copied};
+ghost use Rattle.fact_store.specs.Matching.{selected};
+ghost use Rattle.fact_store.specs.Rows.{are_keys};
+ghost use Rattle.fact_store.specs.declared.wanted.Wanted.{Wanted};
+ghost use Rattle.policy_expressions.specs.Answers.{Gives, Keeps, Leaves};
+ghost use Rattle.policy_meaning.specs.Actions.{each_row, inside, published};
+ghost use Rattle.policy_meaning.specs.Arms.{first_body};
+ghost use Rattle.policy_meaning.specs.Environments.{with_value};
+ghost use Rattle.policy_meaning.specs.Outcomes.{Done, Out, ◌>>=◌, with_turn};
+ghost use Rattle.policy_meaning.specs.Patterns.{row_value};
+ghost use Rattle.policy_meaning.specs.Typed.{AreTyped, IsCommandOf};
+ghost use Rattle.policy_meaning.specs.Values.{struct_parts};
+ghost use Rattle.policy_rules.specs.WellTyped.{items_of};
+ghost use Rattle.policy_eval.specs.working.Acting.{Acts, GivesRows, GoesWell, standing};
+ghost use Rattle.policy_eval.specs.working.Deeds.{deed, deeds, else_deed};
+
+use crate::cause::{Cause, caused};
+use crate::expressions::{value_of, wanted_of};
+use base_bytes::{Steps, Value};
+use fact_store::{FactBase, Row, Wanted};
+use policy_ast::{Arm, Else, IfStmt, Name, Stmt};
+use policy_expressions::{
+    Answer, Env, Known, Setting, Stop, check_of, first_body, let_in, row_value, take_turn, truth_of,
+};
+use policy_meaning::{Desk, FaultKind, Posted};
+use std::alloc::Global;
+use std::sync::ledger::Ledger;
+
+/// Brings a command to the desk.
+fn publish<F: FactBase, P: Desk<F>, L: Ledger>(
+    alloc: Global,
+    facts: &mut F,
+    desk: &mut P,
+    steps: &mut Steps<L>,
+    value: Value,
+) -> Result<(), Cause>
+    requires typed { AreTyped (P.policy desk.old) (F.rows facts.old) }
+    requires declared { IfSome (struct_parts value) (λ parts. IsCommandOf (P.policy desk.old) parts.0 parts.1) }
+    ensures acts { (turns : ℕ) → Acts P.publishes (P.policy desk.old) result tt (published (struct_parts value)) (standing desk.old (F.rows facts.old) turns steps.old) (standing desk.new (F.rows facts.new) turns steps.new) }
+    ensures keeps { P.keeps desk.old desk.new }
+    ensures policy { P.policy desk.new ≡ P.policy desk.old }
+{
+    let Value::Struct(command, fields) = value else {
+        return Err(Cause::Stop(Stop::Stuck));
+    };
+    match desk.publish(alloc, command, fields, facts, steps)? {
+        Posted::Taken => Ok(()),
+        Posted::TooLong => Err(Cause::Stop(Stop::Fault(FaultKind::TooLong))),
+        Posted::Refused => Err(Cause::Refused),
+    }
+}
+
+/// The rows that a `map` goes through.
+fn rows_of<F: FactBase>(alloc: Global, facts: &F, found: Answer<Wanted>) -> Answer<Vec<Row>>
+    requires keys { IfOk found (λ wanted. IsTrue (are_keys wanted.keys)) }
+    ensures { (turns : ℕ) (out : Out Wanted) → Gives found turns out → GivesRows result turns (out >>= λ q turns. Done (selected q (F.rows facts.now)) turns) }
+{
+    let wanted = found?;
+    Ok(facts.select(alloc, &wanted)?)
+}
+
+/// The body of the arm that takes the value.
+fn arm_of<'b>(known: &Known<'_>, value: Value, arms: &'b [Arm<Stmt>]) -> Option<&'b [Stmt]>
+    ensures { option_copied result ≡ first_body known.now value arms.now }
+{
+    first_body(known, &value, arms)
+}
+
+/// Takes a turn, and names a row.
+fn enter_row<'a>(env: &mut Env<'a>, turns: &mut u32, name: &'a Name, row: Row) -> Answer<()>
+    ensures gives { Leaves result env.new turns.new (with_turn (λ turns. Done (with_value env.old name.now (row_value row)) turns) turns.old) }
+    ensures kept { Keeps env.old env.new }
+{
+    take_turn(turns)?;
+    let value = row_value(row)?;
+    env.push(name, value)?;
+    Ok(())
+}
+
+/// One statement. The names that it introduces stay.
+#[cycle(act)]
+fn act<'a, F: FactBase, P: Desk<F>, L: Ledger>(
+    alloc: Global,
+    known: &Known<'a>,
+    setting: &Setting<'_>,
+    facts: &mut F,
+    desk: &mut P,
+    steps: &mut Steps<L>,
+    env: &mut Env<'a>,
+    turns: &mut u32,
+    s: &'a Stmt,
+) -> Result<(), Cause>
+    requires policy { items_of (P.policy desk.old) ≡ known.now }
+    requires typed { AreTyped (P.policy desk.old) (F.rows facts.old) }
+    requires goes { GoesWell (P.policy desk.old) (deed known.now setting.now s.now env.old) (F.rows facts.old) turns.old }
+    ensures acts { Acts P.publishes (P.policy desk.old) result env.new (deed known.now setting.now s.now env.old) (standing desk.old (F.rows facts.old) turns.old steps.old) (standing desk.new (F.rows facts.new) turns.new steps.new) }
+    ensures kept { Keeps env.old env.new }
+    ensures keeps { P.keeps desk.old desk.new }
+    ensures policy { P.policy desk.new ≡ P.policy desk.old }
+{
+    match s {
+        Stmt::Let(one) => {
+            let found = value_of(alloc, known, &*facts, setting, LONGEST, env, turns, &one.value);
+            caused(let_in(env, &one.name, found))
+        }
+        Stmt::Check(e) => {
+            let found = value_of(alloc, known, &*facts, setting, LONGEST, env, turns, e);
+            caused(check_of(found))
+        }
+        Stmt::If(x) => {
+            let found = value_of(alloc, known, &*facts, setting, LONGEST, env, turns, &x.head);
+            if truth_of(found)? {
+                act_block(alloc, known, setting, facts, desk, steps, env, turns, x.then.as_slice())
+            } else {
+                act_else(alloc, known, setting, facts, desk, steps, env, turns, x)
+            }
+        }
+        Stmt::Match(e, arms) => {
+            let value = value_of(alloc, known, &*facts, setting, LONGEST, env, turns, e)?;
+            match arm_of(known, value, arms.as_slice()) {
+                Some(body) => {
+                    act_block(alloc, known, setting, facts, desk, steps, env, turns, body)
+                }
+                None => Err(Cause::Stop(Stop::Stuck)),
+            }
+        }
+        Stmt::Map(p, name, body) => {
+            let found = wanted_of(alloc, known, &*facts, setting, LONGEST, env, turns, p);
+            let rows = rows_of(alloc, &*facts, found)?;
+            act_rows(alloc, known, setting, facts, desk, steps, env, turns, name, body.as_slice(), rows)
+        }
+        Stmt::Publish(e) => {
+            let value = value_of(alloc, known, &*facts, setting, LONGEST, env, turns, e)?;
+            publish(alloc, facts, desk, steps, value)
+        }
+        Stmt::Finish(_) | Stmt::Return(_) => Err(Cause::Stop(Stop::Stuck)),
+    }
+}
