@@ -1,0 +1,30 @@
+-- What the changes of a block make of the facts, one after another.
+use Rattle.std.specs.Prelude.{◌≡◌, List, [], ◌∷◌, Result, Ok, Err, None, ⊤}
+use Rattle.fact_store.specs.declared.row.Row.{Row}
+use Rattle.policy_meaning.specs.Applying.{Checks, Ended, Faults, Passes, Sticks, applied, with_effect}
+use Rattle.policy_meaning.specs.Finish.{Change}
+use Rattle.policy_meaning.specs.declared.effect.Effect.{Effect}
+use Rattle.policy_expressions.specs.declared.stop.Stop.{Stop}
+use Rattle.policy_expressions.specs.declared.stop.Stop.TheVariants as stop
+
+-- A block ends for this reason. Out of memory says nothing.
+abbrev pub EndsBlock : Stop → Ended → Type 0
+EndsBlock stop.Check ended = ended ≡ Checks None
+EndsBlock (stop.Fault kind) ended = ended ≡ Faults kind
+EndsBlock stop.Stuck ended = ended ≡ Sticks
+EndsBlock stop.NoMemory ended = ⊤
+
+-- How a block ends with these effects in front of those that follow.
+abbrev pub with_effects : List Effect → Ended → Ended
+with_effects [] ended = ended
+with_effects (e ∷ effects) ended = with_effect e (with_effects effects ended)
+
+-- One change was made, so that what follows ends the block as before; or the block ends with it.
+abbrev pub Applies : {A : Type 0} → Result A Stop → Change → List Row → List Row → List Effect → List Effect → List Change → Type 0
+Applies (Ok done) change old new before after more = with_effects before (applied (change ∷ more) old) ≡ with_effects after (applied more new)
+Applies (Err why) change old new before after more = EndsBlock why (with_effects before (applied (change ∷ more) old))
+
+-- All changes were made, and these are the effects; or the block ends with one of them.
+abbrev pub AppliesAll : Result (List Effect) Stop → List Change → List Row → List Row → Type 0
+AppliesAll (Ok effects) changes old new = applied changes old ≡ Passes new effects
+AppliesAll (Err why) changes old new = EndsBlock why (applied changes old)

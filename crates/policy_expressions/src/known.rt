@@ -1,0 +1,72 @@
+ghost use Rattle.std.specs.Prelude.{◌≡◌, ◌<◌, ◌^◌, length, IfOk, IfSome};
+ghost use Rattle.std.specs.Option.{option_copied};
+ghost use Rattle.policy_expressions.specs.Policies.{AreItems};
+ghost use Rattle.policy_rules.specs.Names.{item_named, number_named};
+ghost use Rattle.policy_rules.specs.WellTyped.{items_of};
+
+use base_bytes::NoMemory;
+use policy_ast::{Item, Name};
+use policy_heads::Heads;
+use policy_types::Checked;
+use std::alloc::Global;
+use std::marker::Model;
+
+/// The items of a well-typed policy, each to be found by its name. Contracts see it as the list of the items. It is made once, and no look-up takes
+/// memory.
+#[derive(Drop)]
+pub struct Known<'a> {
+    heads: Heads<'a>,
+}
+
+impl<'a> Model for Known<'a> {
+    ghost use Rattle.std.specs.Prelude.{List};
+    ghost use Rattle.std.specs.Coded.{coded_list};
+    ghost use Rattle.policy_ast.specs.declared.item.Item.{Item};
+    ghost use Rattle.policy_ast.specs.contracts.item.Item as item_contract;
+    ghost use Rattle.policy_expressions.specs.Policies.{AreItems};
+
+    ghost Value = { List Item };
+
+    ghost coded = { coded_list item_contract.the_row.coded };
+
+    ghost view = { λ k. k.heads };
+
+    ghost invariant = { λ k. AreItems k.heads };
+}
+
+impl<'a> Known<'a> {
+    /// The items of the policy.
+    pub fn new(alloc: Global, checked: &'a Checked) -> Result<Known<'a>, NoMemory>
+        ensures { IfOk result (λ known. known ≡ items_of checked.now) }
+    {
+        let policy = checked.policy();
+        let heads = Heads::new(alloc, policy)?;
+        Ok(Known { heads })
+    }
+
+    /// The table of the items, with more look-ups.
+    pub fn heads(&self) -> &Heads<'a>
+        ensures heads { result.now ≡ self.now }
+        ensures items { AreItems self.now }
+    {
+        &self.heads
+    }
+
+    /// The number of the item that a name means, counted from 0.
+    pub fn number_named(&self, name: &Name) -> Option<u32>
+        ensures number { result ≡ number_named self.now name.now }
+        ensures within { IfSome result (λ number. number < length self.now) }
+    {
+        match self.heads.number_named(name) {
+            Some(number) => Some(number as u32),
+            None => None,
+        }
+    }
+
+    /// The item that a name means.
+    pub fn item_named(&self, name: &Name) -> Option<&'a Item>
+        ensures { option_copied result ≡ item_named self.now name.now }
+    {
+        self.heads.item_named(name)
+    }
+}
