@@ -62,13 +62,13 @@ inside_told (Stops why w) env next = refl
 module _ {D : Type 0} (publishes : D → List Row → Posting → D → Type 0) (policy : List PlacedItem) where
   -- ---- stops
 
-  stops_all : {A : Type 0} (why : Option Stop) (deed first : World → Deed A) (old mid new : Standing D) → Acted publishes policy deed first old mid → StopsFor publishes policy why first mid new
+  pub stops_all : {A : Type 0} (why : Option Stop) (deed first : World → Deed A) (old mid new : Standing D) → Acted publishes policy deed first old mid → StopsFor publishes policy why first mid new
       → StopsFor publishes policy why deed old new
   stops_all None deed first old mid new a s = tt
   stops_all (Some why) deed first old mid new a s =
       record { turns = s.turns; acted = acted_all publishes policy deed first (Stops why) old mid (record { desk = new.desk; rows = new.rows; turns = s.turns; ticks = new.ticks }) a s.acted }
 
-  stops_on : {A B : Type 0} (why : Option Stop) (deed : World → Deed B) (first : World → Deed A) (next : A → World → Deed B) (old mid new : Standing D)
+  pub stops_on : {A B : Type 0} (why : Option Stop) (deed : World → Deed B) (first : World → Deed A) (next : A → World → Deed B) (old mid new : Standing D)
       → Acted publishes policy deed (λ w. first w >>> next) old mid → StopsFor publishes policy why first mid new → StopsFor publishes policy why deed old new
   stops_on None deed first next old mid new a s = tt
   stops_on (Some why) deed first next old mid new a s =
@@ -79,11 +79,6 @@ module _ {D : Type 0} (publishes : D → List Row → Posting → D → Type 0) 
       → Acts publishes policy r x deed old new
   acts_all (Ok done) x deed first old mid new a b = acted_all publishes policy deed first (Did x) old mid new a b
   acts_all (Err why) x deed first old mid new a b = stops_all (reason why) deed first old mid new a b
-
-  -- a part stops, whatever was to follow
-  pub acts_stops : {A B : Type 0} (why : Cause) (x : A) (y : B) (deed : World → Deed B) (first : World → Deed A) (next : A → World → Deed B) (old mid new : Standing D)
-      → Acted publishes policy deed (λ w. first w >>> next) old mid → StopsFor publishes policy (reason why) first mid new → StopsFor publishes policy (reason why) deed old new
-  acts_stops why x y deed first next old mid new a s = stops_on (reason why) deed first next old mid new a s
 
   -- ---- evaluations
 

@@ -7,7 +7,6 @@ use Rattle.policy_ast.specs.declared.expr.Expr.{Expr}
 use Rattle.policy_ast.specs.declared.expr.Let.{Let}
 use Rattle.policy_ast.specs.declared.finish.FinishStmt.{FinishStmt}
 use Rattle.policy_ast.specs.declared.item.Item.{Item}
-use Rattle.policy_ast.specs.declared.pattern.Free.{Free}
 use Rattle.policy_ast.specs.declared.pattern.Pattern.{Pattern}
 use Rattle.policy_ast.specs.declared.statement.Arm.{Arm}
 use Rattle.policy_ast.specs.declared.statement.Else.{Else}
@@ -15,22 +14,21 @@ use Rattle.policy_ast.specs.declared.statement.Else.TheVariants as else_stmt
 use Rattle.policy_ast.specs.declared.statement.IfStmt.{IfStmt}
 use Rattle.policy_ast.specs.declared.statement.Stmt.{Stmt}
 use Rattle.policy_ast.specs.declared.statement.Stmt.TheVariants as stmt
+use Rattle.policy_expressions.specs.Meant.{meant, wanted_meant}
 use Rattle.policy_meaning.specs.Actions.{Act, Deed, Did, Halts, Stops, World, ◌>>>◌, act, act_layer, acts, arm_act, choose, each_row, else_act, inside, published, told, with_turn, with_turns}
 use Rattle.policy_meaning.specs.Arms.{first_body, takes}
 use Rattle.policy_meaning.specs.Environments.{Env, Setting, with_value}
 use Rattle.policy_meaning.specs.Expressions.{Meaning}
 use Rattle.policy_meaning.specs.Functions.{expression}
-use Rattle.policy_meaning.specs.Outcomes.{Check, Fault, Stuck, Out, Done, Ends, ◌>>=◌, or_stuck}
-use Rattle.policy_meaning.specs.Patterns.{gaps_in_order, row_value, value_names, wanted_in, wanted_of}
+use Rattle.policy_meaning.specs.Outcomes.{Check, Fault, Stuck}
+use Rattle.policy_meaning.specs.Patterns.{row_value, wanted_in}
 use Rattle.policy_meaning.specs.Values.{struct_parts, truth}
 use Rattle.policy_meaning.specs.declared.ends.FaultKind.TheVariants as fault
 use Rattle.policy_rules.proofs.Folds.{fold-stmt-Check, fold-stmt-Finish, fold-stmt-If, fold-stmt-Let, fold-stmt-Map, fold-stmt-Match, fold-stmt-Publish, fold-stmt-Return}
 use Rattle.policy_rules.proofs.StatementMaps.{map_arm, map_else}
 use Rattle.policy_rules.specs.Calls.{longest_chain}
-use Rattle.policy_rules.specs.Expressions.{value_part}
 use Rattle.policy_rules.specs.Names.{Name}
 use Rattle.policy_eval.specs.working.Deeds.{arm_deed, deed, deeds, else_deed}
-use Rattle.policy_eval.specs.working.Meant.{frees_meant, gap_meant, meant, pattern_meant}
 
 module _ {A B : Type 0} where
   pub then_same : (d : Deed A) (f g : A → World → Deed B) → ((x : A) (w : World) → f x w ≡ g x w) → (d >>> f) ≡ (d >>> g)
@@ -88,31 +86,6 @@ module _ (items : List Item) (setting : Setting) where
       ∙ then_same (with_turn (deeds items setting body (with_value env name (row_value row))) w) (λ inner w. each_row name (acts (map step body)) env rows w)
       (λ inner w. each_row name (deeds items setting body) env rows w) (λ inner w. rows_same name body env rows w)
 
-  gaps_same : (rows : List Row) (frees : List (Free Expr)) (env : Env) (turns : ℕ)
-      → gaps_in_order (map (λ f. option_map (says rows) f.value) frees) env turns ≡ frees_meant items rows setting longest_chain frees env turns
-  unfolding meant
-  gaps_same rows [] env turns = refl
-  gaps_same rows (f ∷ frees) env turns = by f.value
-    where
-      by : (o : Option Expr) → gaps_in_order (option_map (says rows) o ∷ map (λ f. option_map (says rows) f.value) frees) env turns
-          ≡ (gap_meant items rows setting longest_chain o env turns >>= λ v turns. frees_meant items rows setting longest_chain frees env turns >>= λ vs turns. Done (v ∷ vs) turns)
-      by None = ap (λ out. out >>= λ vs turns. Done (None ∷ vs) turns) (gaps_same rows frees env turns)
-      by (Some e) = of (says rows e env turns)
-        where
-          of : (out : Out Value) → (out >>= λ v turns. gaps_in_order (map (λ f. option_map (says rows) f.value) frees) env turns >>= λ vs turns. Done (Some v ∷ vs) turns)
-              ≡ ((out >>= λ v turns. Done (Some v) turns) >>= λ v turns. frees_meant items rows setting longest_chain frees env turns >>= λ vs turns. Done (v ∷ vs) turns)
-          of (Done v turns) = ap (λ out. out >>= λ vs turns. Done (Some v ∷ vs) turns) (gaps_same rows frees env turns)
-          of (Ends halt) = refl
-
-  pub pattern_same : (rows : List Row) (p : Pattern Expr) (env : Env) (turns : ℕ) → wanted_in items (says rows) p env turns ≡ pattern_meant items rows setting longest_chain p env turns
-  pattern_same rows p env turns = ap (λ out. out >>= λ ks turns. gaps_in_order (map (λ f. option_map (says rows) f.value) (value_part p.values)) env turns >>= λ vs turns. or_stuck (wanted_of items p.fact ks (value_names p) vs) turns)
-      (gaps_same rows p.keys env turns) ∙ by (frees_meant items rows setting longest_chain p.keys env turns)
-    where
-      by : (out : Out (List (Option Value))) → (out >>= λ ks turns. gaps_in_order (map (λ f. option_map (says rows) f.value) (value_part p.values)) env turns >>= λ vs turns. or_stuck (wanted_of items p.fact ks (value_names p) vs) turns)
-          ≡ (out >>= λ ks turns. frees_meant items rows setting longest_chain (value_part p.values) env turns >>= λ vs turns. or_stuck (wanted_of items p.fact ks (value_names p) vs) turns)
-      by (Done ks turns) = ap (λ out. out >>= λ vs turns. or_stuck (wanted_of items p.fact ks (value_names p) vs) turns) (gaps_same rows (value_part p.values) env turns)
-      by (Ends halt) = refl
-
   module _ (env : Env) (w : World) where
     pub let_is : (l : Let Expr) → deed items setting (stmt.Let l) env w ≡ (told w (meant items w.rows setting longest_chain l.value env w.turns) >>> λ v w. Did (with_value env l.name v) w)
     unfolding deed meant
@@ -145,13 +118,12 @@ module _ (items : List Item) (setting : Setting) where
             ∙ inside_same (arm_act (option_map (map step) (first_body items v arms))) (arm_deed items setting (first_body items v arms)) env w (arm_same (first_body items v arms) env w))
 
     pub map_is : (p : Pattern Expr) (name : Name) (body : List Stmt) → deed items setting (stmt.Map p name body) env w
-        ≡ (told w (pattern_meant items w.rows setting longest_chain p env w.turns) >>> λ q w. each_row name (deeds items setting body) env (selected q w.rows) w)
+        ≡ (told w (wanted_meant items w.rows setting longest_chain p env w.turns) >>> λ q w. each_row name (deeds items setting body) env (selected q w.rows) w)
     unfolding deed meant
     map_is p name body =
         ap (λ a. a env w) (fold-stmt-Map (act_layer items says) p name body)
         ∙ then_same (told w (wanted_in items (says w.rows) p env w.turns)) (λ q w. each_row name (acts (map step body)) env (selected q w.rows) w)
         (λ q w. each_row name (deeds items setting body) env (selected q w.rows) w) (λ q w. rows_same name body env (selected q w.rows) w)
-        ∙ ap (λ out. told w out >>> λ q w. each_row name (deeds items setting body) env (selected q w.rows) w) (pattern_same w.rows p env w.turns)
 
     pub publish_is : (e : Expr) → deed items setting (stmt.Publish e) env w
         ≡ (told w (meant items w.rows setting longest_chain e env w.turns) >>> λ v w. published (struct_parts v) w >>> λ done w. Did env w)

@@ -1,3 +1,9 @@
 -- Lemmas of this crate.
 mod ActingFacts
 mod DeedForms
+mod ActForms
+mod ActionRoomFacts
+mod ActionLoops
+mod ActionEnds
+mod ListingForms
+mod EndingFacts

@@ -11,6 +11,7 @@ use Rattle.policy_ast.specs.declared.finish.FinishStmt.TheVariants as finish
 use Rattle.policy_ast.specs.declared.item.Item.{Item}
 use Rattle.policy_ast.specs.declared.item.Item.TheVariants as item
 use Rattle.policy_ast.specs.declared.pattern.Pattern.{Pattern}
+use Rattle.policy_expressions.specs.Meant.{binds_meant, meant, values_meant, wanted_meant}
 use Rattle.policy_meaning.specs.Environments.{Env, Setting, bound_parameters, no_setting}
 use Rattle.policy_meaning.specs.Expressions.{Meaning}
 use Rattle.policy_meaning.specs.Finish.{Change, all_listed, finish_called, finish_entered, listed}
@@ -20,9 +21,7 @@ use Rattle.policy_meaning.specs.declared.ends.FaultKind.TheVariants as fault
 use Rattle.policy_rules.specs.Calls.{longest_chain}
 use Rattle.policy_rules.specs.Names.{Name, item_named}
 use Rattle.policy_rules.specs.Types.{declared}
-use Rattle.policy_eval.proofs.DeedForms.{pattern_same}
 use Rattle.policy_eval.specs.working.Listing.{behind, change_listed, finish_call, one, stmt_listed, stmts_listed}
-use Rattle.policy_eval.specs.working.Meant.{all_meant, bind_meant, binds_meant, each, meant, pattern_meant}
 
 -- ---- lists that grow
 
@@ -59,52 +58,39 @@ one_then (Ends halt) f g same = refl
 
 module _ (items : List Item) (rows : List Row) where
   module _ (setting : Setting) where
-    all_same : (es : List Expr) (env : Env) (turns : ℕ) → all_in_order (map (expression items rows setting) es) env turns ≡ all_meant items rows setting longest_chain es env turns
+    binds_same : (binds : List (Bind Expr)) → map (expression items rows setting) (map (λ b. b.value) binds) ≡ map (λ b. meant items rows setting longest_chain b.value) binds
     unfolding meant
-    all_same [] env turns = refl
-    all_same (e ∷ es) env turns = by (expression items rows setting e env turns)
-      where
-        by : (out : Out Value) → (out >>= λ x turns. all_in_order (map (expression items rows setting) es) env turns >>= λ xs turns. Done (x ∷ xs) turns)
-            ≡ (out >>= λ x turns. all_meant items rows setting longest_chain es env turns >>= λ xs turns. Done (x ∷ xs) turns)
-        by (Done x turns) = ap (λ out. out >>= λ xs turns. Done (x ∷ xs) turns) (all_same es env turns)
-        by (Ends halt) = refl
+    binds_same [] = refl
+    binds_same (b ∷ binds) = ap (λ ms. expression items rows setting b.value ∷ ms) (binds_same binds)
 
-    binds_same : (binds : List (Bind Expr)) (env : Env) (turns : ℕ)
+    binds_all : (binds : List (Bind Expr)) (env : Env) (turns : ℕ)
         → all_in_order (map (expression items rows setting) (map (λ b. b.value) binds)) env turns ≡ binds_meant items rows setting longest_chain binds env turns
-    unfolding meant
-    binds_same [] env turns = refl
-    binds_same (b ∷ binds) env turns = by (expression items rows setting b.value env turns)
-      where
-        by : (out : Out Value) → (out >>= λ x turns. all_in_order (map (expression items rows setting) (map (λ b. b.value) binds)) env turns >>= λ xs turns. Done (x ∷ xs) turns)
-            ≡ (out >>= λ x turns. binds_meant items rows setting longest_chain binds env turns >>= λ xs turns. Done (x ∷ xs) turns)
-        by (Done x turns) = ap (λ out. out >>= λ xs turns. Done (x ∷ xs) turns) (binds_same binds env turns)
-        by (Ends halt) = refl
+    binds_all binds env turns = ap (λ ms. all_in_order ms env turns) (binds_same binds)
 
     module _ (depth : ℕ) (env : Env) (turns : ℕ) where
       pub create_listed : (fact : Name) (keys values : List (Bind Expr)) → stmt_listed items rows setting depth (finish.Create fact keys values) env turns ≡ one (change_listed items rows setting (finish.Create fact keys values) env turns)
       unfolding stmt_listed
-      create_listed fact keys values = rw (binds_same keys env turns)
-          (one_then (binds_meant items rows setting longest_chain keys env turns) _ _ (λ ks turns. rw (binds_same values env turns)
+      create_listed fact keys values = rw (binds_all keys env turns)
+          (one_then (binds_meant items rows setting longest_chain keys env turns) _ _ (λ ks turns. rw (binds_all values env turns)
           (one_then (binds_meant items rows setting longest_chain values env turns) _ _ (λ vs turns. listed_one _ turns))))
 
       pub update_listed : (p : Pattern Expr) (to : List (Bind Expr)) → stmt_listed items rows setting depth (finish.Update p to) env turns ≡ one (change_listed items rows setting (finish.Update p to) env turns)
-      unfolding stmt_listed
-      update_listed p to = rw (pattern_same items setting rows p env turns)
-          (one_then (pattern_meant items rows setting longest_chain p env turns) _ _ (λ old turns. rw (binds_same to env turns)
+      unfolding stmt_listed meant
+      update_listed p to = (one_then (wanted_meant items rows setting longest_chain p env turns) _ _ (λ old turns. rw (binds_all to env turns)
           (one_then (binds_meant items rows setting longest_chain to env turns) _ _ (λ vs turns. listed_one _ turns))))
 
       pub delete_listed : (fact : Name) (keys : List (Bind Expr)) → stmt_listed items rows setting depth (finish.Delete fact keys) env turns ≡ one (change_listed items rows setting (finish.Delete fact keys) env turns)
       unfolding stmt_listed
-      delete_listed fact keys = rw (binds_same keys env turns) (one_then (binds_meant items rows setting longest_chain keys env turns) _ _ (λ ks turns. listed_one _ turns))
+      delete_listed fact keys = rw (binds_all keys env turns) (one_then (binds_meant items rows setting longest_chain keys env turns) _ _ (λ ks turns. listed_one _ turns))
 
       pub emit_listed : (e : Expr) → stmt_listed items rows setting depth (finish.Emit e) env turns ≡ one (change_listed items rows setting (finish.Emit e) env turns)
       unfolding stmt_listed meant
       emit_listed e = one_then (meant items rows setting longest_chain e env turns) _ _ (λ v turns. listed_one _ turns)
 
       pub call_listed : (called : Name) (arguments : List Expr) → stmt_listed items rows setting depth (finish.Call called arguments) env turns
-          ≡ (all_meant items rows setting longest_chain arguments env turns >>= λ vs turns. finish_call items rows depth called vs turns)
-      unfolding stmt_listed finish_call
-      call_listed called arguments = rw (all_same arguments env turns) refl
+          ≡ (values_meant items rows setting longest_chain arguments env turns >>= λ vs turns. finish_call items rows depth called vs turns)
+      unfolding stmt_listed finish_call meant
+      call_listed called arguments = refl
 
     pub stmts_same : (depth : ℕ) (statements : List FinishStmt) (env : Env) (turns : ℕ)
         → all_listed items (expression items rows setting) (finish_called items (finish_expression items rows) depth) statements env turns ≡ stmts_listed items rows setting depth statements env turns

@@ -18,7 +18,7 @@ ghost use Rattle.policy_eval.specs.working.Acting.{Acts, GivesRows, GoesWell, st
 ghost use Rattle.policy_eval.specs.working.Deeds.{deed, deeds, else_deed};
 
 use crate::cause::{Cause, caused};
-use crate::expressions::{value_of, wanted_of};
+use crate::expressions::{LONGEST, value_of, wanted_of};
 use base_bytes::{Steps, Value};
 use fact_store::{FactBase, Row, Wanted};
 use policy_ast::{Arm, Else, IfStmt, Name, Stmt};
@@ -138,4 +138,100 @@ fn act<'a, F: FactBase, P: Desk<F>, L: Ledger>(
         }
         Stmt::Finish(_) | Stmt::Return(_) => Err(Cause::Stop(Stop::Stuck)),
     }
+}
+
+/// Statements one after another. The names that they introduce end with them.
+#[cycle(act)]
+pub(crate) fn act_block<'a, F: FactBase, P: Desk<F>, L: Ledger>(
+    alloc: Global,
+    known: &Known<'a>,
+    setting: &Setting<'_>,
+    facts: &mut F,
+    desk: &mut P,
+    steps: &mut Steps<L>,
+    env: &mut Env<'a>,
+    turns: &mut u32,
+    body: &'a [Stmt],
+) -> Result<(), Cause>
+    requires policy { items_of (P.policy desk.old) ≡ known.now }
+    requires typed { AreTyped (P.policy desk.old) (F.rows facts.old) }
+    requires goes { GoesWell (P.policy desk.old) (inside (deeds known.now setting.now body.now) env.old) (F.rows facts.old) turns.old }
+    ensures acts { Acts P.publishes (P.policy desk.old) result env.new (inside (deeds known.now setting.now body.now) env.old) (standing desk.old (F.rows facts.old) turns.old steps.old) (standing desk.new (F.rows facts.new) turns.new steps.new) }
+    ensures kept { OnOk result (env.new ≡ env.old) }
+    ensures keeps { P.keeps desk.old desk.new }
+    ensures policy { P.policy desk.new ≡ P.policy desk.old }
+{
+    let outside = env.len();
+    for s in body {
+        act(alloc, known, setting, facts, desk, steps, env, turns, s)?;
+    }
+    env.truncate(outside);
+    Ok(())
+}
+
+/// What follows `else`, if anything.
+#[cycle(act)]
+fn act_else<'a, F: FactBase, P: Desk<F>, L: Ledger>(
+    alloc: Global,
+    known: &Known<'a>,
+    setting: &Setting<'_>,
+    facts: &mut F,
+    desk: &mut P,
+    steps: &mut Steps<L>,
+    env: &mut Env<'a>,
+    turns: &mut u32,
+    x: &'a IfStmt<Stmt>,
+) -> Result<(), Cause>
+    requires policy { items_of (P.policy desk.old) ≡ known.now }
+    requires typed { AreTyped (P.policy desk.old) (F.rows facts.old) }
+    requires goes { GoesWell (P.policy desk.old) (inside (else_deed known.now setting.now x.now.otherwise) env.old) (F.rows facts.old) turns.old }
+    ensures acts { Acts P.publishes (P.policy desk.old) result env.new (inside (else_deed known.now setting.now x.now.otherwise) env.old) (standing desk.old (F.rows facts.old) turns.old steps.old) (standing desk.new (F.rows facts.new) turns.new steps.new) }
+    ensures kept { OnOk result (env.new ≡ env.old) }
+    ensures keeps { P.keeps desk.old desk.new }
+    ensures policy { P.policy desk.new ≡ P.policy desk.old }
+{
+    match &x.otherwise {
+        None => Ok(()),
+        Some(Else::Block(body)) => {
+            act_block(alloc, known, setting, facts, desk, steps, env, turns, body.as_slice())
+        }
+        Some(Else::If(s)) => {
+            let outside = env.len();
+            act(alloc, known, setting, facts, desk, steps, env, turns, s.get())?;
+            env.truncate(outside);
+            Ok(())
+        }
+    }
+}
+
+/// A block for each of the rows, in their order, each with a turn of its own and the row under the name.
+#[cycle(act)]
+fn act_rows<'a, F: FactBase, P: Desk<F>, L: Ledger>(
+    alloc: Global,
+    known: &Known<'a>,
+    setting: &Setting<'_>,
+    facts: &mut F,
+    desk: &mut P,
+    steps: &mut Steps<L>,
+    env: &mut Env<'a>,
+    turns: &mut u32,
+    name: &'a Name,
+    body: &'a [Stmt],
+    rows: Vec<Row>,
+) -> Result<(), Cause>
+    requires policy { items_of (P.policy desk.old) ≡ known.now }
+    requires typed { AreTyped (P.policy desk.old) (F.rows facts.old) }
+    requires goes { GoesWell (P.policy desk.old) (each_row name.now (deeds known.now setting.now body.now) env.old rows.items) (F.rows facts.old) turns.old }
+    ensures acts { Acts P.publishes (P.policy desk.old) result env.new (each_row name.now (deeds known.now setting.now body.now) env.old rows.items) (standing desk.old (F.rows facts.old) turns.old steps.old) (standing desk.new (F.rows facts.new) turns.new steps.new) }
+    ensures kept { OnOk result (env.new ≡ env.old) }
+    ensures keeps { P.keeps desk.old desk.new }
+    ensures policy { P.policy desk.new ≡ P.policy desk.old }
+{
+    let outside = env.len();
+    for row in rows {
+        enter_row(env, turns, name, row)?;
+        act_block(alloc, known, setting, facts, desk, steps, env, turns, body)?;
+        env.truncate(outside);
+    }
+    Ok(())
 }

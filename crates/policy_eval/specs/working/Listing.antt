@@ -6,13 +6,13 @@ use Rattle.policy_ast.specs.declared.finish.FinishStmt.{FinishStmt}
 use Rattle.policy_ast.specs.declared.finish.FinishStmt.TheVariants as finish
 use Rattle.policy_ast.specs.declared.item.Item.{Item}
 use Rattle.policy_expressions.specs.Forms.{created_of, deleted_of, emitted_of, updated_of}
+use Rattle.policy_expressions.specs.Meant.{binds_meant, meant, wanted_meant}
 use Rattle.policy_meaning.specs.Environments.{Env, Setting}
 use Rattle.policy_meaning.specs.Finish.{Change, bind_names, finish_called, listing}
 use Rattle.policy_meaning.specs.Functions.{expression, finish_expression}
 use Rattle.policy_meaning.specs.Outcomes.{Out, Done, Ends, Stuck, ◌>>=◌}
 use Rattle.policy_rules.specs.Calls.{longest_chain}
 use Rattle.policy_rules.specs.Names.{Name}
-use Rattle.policy_eval.specs.working.Meant.{binds_meant, meant, pattern_meant}
 
 -- more of a list, behind what is listed already
 abbrev pub behind : List Change → Out (List Change) → Out (List Change)
@@ -33,7 +33,7 @@ module _ (items : List Item) (rows : List Row) where
     change_listed (finish.Create fact keys values) env turns =
         binds_meant items rows setting longest_chain keys env turns >>= λ ks turns. created_of items fact ks (bind_names values) (binds_meant items rows setting longest_chain values env turns)
     change_listed (finish.Update p to) env turns =
-        pattern_meant items rows setting longest_chain p env turns >>= λ old turns. updated_of items p.fact old (bind_names to) (binds_meant items rows setting longest_chain to env turns)
+        wanted_meant items rows setting longest_chain p env turns >>= λ old turns. updated_of items p.fact old (bind_names to) (binds_meant items rows setting longest_chain to env turns)
     change_listed (finish.Delete fact keys) env turns = deleted_of items fact (binds_meant items rows setting longest_chain keys env turns)
     change_listed (finish.Emit e) env turns = emitted_of (meant items rows setting longest_chain e env turns)
     change_listed (finish.Call called arguments) env turns = Ends Stuck
