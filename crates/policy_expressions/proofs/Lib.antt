@@ -1,0 +1,5 @@
+pub mod FormMeanings
+pub mod StatementMeanings
+mod NumberFacts
+mod VariantFacts
+mod FieldFacts

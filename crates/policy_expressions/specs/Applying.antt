@@ -1,7 +1,8 @@
 -- What the changes of a block make of the facts, one after another.
 use Rattle.std.specs.Prelude.{◌≡◌, List, [], ◌∷◌, Result, Ok, Err, None, ⊤}
+use Rattle.fact_store.specs.Writes.{Outcome}
 use Rattle.fact_store.specs.declared.row.Row.{Row}
-use Rattle.policy_meaning.specs.Applying.{Checks, Ended, Faults, Passes, Sticks, applied, with_effect}
+use Rattle.policy_meaning.specs.Applying.{Checks, Ended, Faults, Passes, Sticks, applied, with_effect, written}
 use Rattle.policy_meaning.specs.Finish.{Change}
 use Rattle.policy_meaning.specs.declared.effect.Effect.{Effect}
 use Rattle.policy_expressions.specs.declared.stop.Stop.{Stop}
@@ -28,3 +29,8 @@ Applies (Err why) change old new before after more = EndsBlock why (with_effects
 abbrev pub AppliesAll : Result (List Effect) Stop → List Change → List Row → List Row → Type 0
 AppliesAll (Ok effects) changes old new = applied changes old ≡ Passes new effects
 AppliesAll (Err why) changes old new = EndsBlock why (applied changes old)
+
+-- A write was made, or the block ends with it, whatever would follow.
+abbrev pub AppliesWrite : {A : Type 0} → Result A Stop → Outcome → List Row → Type 0
+AppliesWrite (Ok done) outcome new = outcome ≡ Ok new
+AppliesWrite (Err why) outcome new = (next : List Row → Ended) → EndsBlock why (written outcome next)

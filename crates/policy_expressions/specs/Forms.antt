@@ -1,5 +1,5 @@
 -- What each form makes of the values of its parts, where the last of them may have ended early.
-use Rattle.std.specs.Prelude.{ℕ, ℤ, Bool, List, Option, None, option_map}
+use Rattle.std.specs.Prelude.{ℕ, ℤ, Bool, if◌then◌else◌, List, Option, None, option_map}
 use Rattle.std.specs.Option.{is_some}
 use Rattle.base_bytes.specs.declared.value.Value.{Value}
 use Rattle.base_bytes.specs.declared.value.Value.TheVariants as value
@@ -25,6 +25,10 @@ use Rattle.policy_rules.specs.Names.{Name}
 
 abbrev pub truth_of : Out Value → Out Bool
 truth_of out = out >>= λ v turns. or_stuck (truth v) turns
+
+-- What depends on a truth.
+abbrev pub chosen : {A : Type 0} → Out Bool → (ℕ → Out A) → (ℕ → Out A) → Out A
+chosen out first second = out >>= λ b turns. if b then first turns else second turns
 
 -- A check that fails ends the evaluation.
 abbrev pub check_of : Out Value → Out (Unit {0})

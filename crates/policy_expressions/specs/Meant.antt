@@ -1,5 +1,5 @@
 -- What the expressions and statements of a policy mean, under names that proofs of code keep shut.
-use Rattle.std.specs.Prelude.{ℕ, List, [], ◌∷◌, map, Option, Some, None, option_map, if◌then◌else◌}
+use Rattle.std.specs.Prelude.{ℕ, List, [], ◌∷◌, map, Option, Some, None, option_map}
 use Rattle.base_bytes.specs.declared.value.Value.{Value}
 use Rattle.fact_store.specs.declared.row.Row.{Row}
 use Rattle.fact_store.specs.declared.wanted.Wanted.{Wanted}
@@ -22,7 +22,7 @@ use Rattle.policy_meaning.specs.Finish.{Listing}
 use Rattle.policy_meaning.specs.Functions.{called}
 use Rattle.policy_meaning.specs.Outcomes.{Done, Ends, Out, Stuck, ◌>>=◌, all_in_order}
 use Rattle.policy_meaning.specs.Patterns.{gaps_in_order, wanted_in}
-use Rattle.policy_meaning.specs.Statements.{Goes, Ran, Run, block, ran, run}
+use Rattle.policy_meaning.specs.Statements.{Goes, Run, block, ran, run}
 
 module _ (items : List Item) (rows : List Row) (setting : Setting) (depth : ℕ) where
   -- What an expression means, where calls stand in chains of at most so many.
@@ -35,7 +35,7 @@ module _ (items : List Item) (rows : List Row) (setting : Setting) (depth : ℕ)
 
   -- The expressions that are bound.
   abbrev pub binds_meant : List (Bind Expr) → Env → ℕ → Out (List Value)
-  binds_meant binds = all_in_order (map (λ b. meant b.value) binds)
+  binds_meant binds = values_meant (map (λ b. b.value) binds)
 
   -- The expressions of a part of a pattern.
   abbrev pub gaps_meant : List (Free Expr) → Env → ℕ → Out (List (Option Value))

@@ -1,15 +1,29 @@
 //! What writes make of the facts.
 
 ghost use Rattle.std.specs.Prelude.{List};
+ghost use Rattle.fact_store.specs.Writes.{Outcome, Writes};
+ghost use Rattle.fact_store.specs.declared.row.Row.{Row};
 ghost use Rattle.policy_meaning.specs.Finish.{Change as Meant};
-ghost use Rattle.policy_expressions.specs.Applying.{Applies, AppliesAll};
+ghost use Rattle.policy_expressions.specs.Applying.{Applies, AppliesAll, AppliesWrite};
 
-use crate::change::Change;
+use crate::change::{Change, Changes, Listed};
 use crate::stop::{Answer, Stop};
-use fact_store::FactBase;
-use policy_meaning::Effects;
-use sqlite_items::Items;
+use fact_store::{FactBase, WriteFault};
+use policy_meaning::{Effects, FaultKind};
 use std::alloc::Global;
+
+/// A write that isn't possible is a fault.
+fn written(found: Result<(), WriteFault>) -> Answer<()>
+    ensures { (outcome : Outcome) (old new : List Row) → Writes outcome old found new → AppliesWrite result outcome new }
+{
+    match found {
+        Ok(()) => Ok(()),
+        Err(WriteFault::Exists) => Err(Stop::Fault(FaultKind::Exists)),
+        Err(WriteFault::Missing) => Err(Stop::Fault(FaultKind::Missing)),
+        Err(WriteFault::Differs) => Err(Stop::Fault(FaultKind::Differs)),
+        Err(WriteFault::NoMemory) => Err(Stop::NoMemory),
+    }
+}
 
 /// Makes one change. A write that isn't possible is a fault; the facts and the effects are then as they were.
 pub fn apply<F: FactBase>(
@@ -20,16 +34,21 @@ pub fn apply<F: FactBase>(
 ) -> Answer<()>
     ensures { (more : List Meant) → Applies result change (F.rows facts.old) (F.rows facts.new) effects.old effects.new more }
 {
-    Err(Stop::NoMemory)
+    match change.into_listed() {
+        Listed::Create(row) => written(facts.create(alloc, row)),
+        Listed::Update(old, values) => written(facts.update(alloc, &old, values)),
+        Listed::Delete(fact, keys) => written(facts.delete(alloc, fact, &keys)),
+        Listed::Emit(effect) => Ok(effects.push(alloc, effect)?),
+    }
 }
 
 /// Makes all changes in order, and answers the effects. After any other answer the facts are open.
-pub fn apply_all<F: FactBase>(
-    alloc: Global,
-    changes: Items<Change>,
-    facts: &mut F,
-) -> Answer<Effects>
+pub fn apply_all<F: FactBase>(alloc: Global, changes: Changes, facts: &mut F) -> Answer<Effects>
     ensures { AppliesAll result changes (F.rows facts.old) (F.rows facts.new) }
 {
-    Err(Stop::NoMemory)
+    let mut effects = Effects::new(alloc);
+    for change in changes.into_vec() {
+        apply(alloc, change, facts, &mut effects)?;
+    }
+    Ok(effects)
 }

@@ -8,12 +8,15 @@ ghost use Rattle.policy_meaning.specs.Outcomes.{Out, or_stuck};
 ghost use Rattle.policy_expressions.specs.Answers.{Gives};
 ghost use Rattle.policy_expressions.specs.Forms.{created_of, deleted_of, emitted_of, updated_of};
 
-use crate::change::{Change, Listed};
+use crate::change::Change;
 use crate::known::Known;
+use crate::patterns::are_keys;
 use crate::stop::{Answer, Stop};
+use crate::structs::values_in_order;
 use base_bytes::{Value, Values};
-use fact_store::Wanted;
+use fact_store::{Row, Wanted};
 use policy_ast::{Bind, Expr, Name};
+use policy_meaning::Effect;
 use std::alloc::Global;
 
 /// `create`, where the keys have their values.
@@ -27,7 +30,24 @@ pub fn create_of(
 ) -> Answer<Change>
     ensures { (turns : ℕ) (out : Out (List Value)) → Gives found turns out → Gives result turns (created_of known.now fact.now keys (bind_names binds.now) out) }
 {
-    Err(Stop::NoMemory)
+    let values = found?;
+    let Some(fact_number) = known.number_named(fact) else {
+        return Err(Stop::Stuck);
+    };
+    let Some(head) = known.heads().fact_named(fact) else {
+        return Err(Stop::Stuck);
+    };
+    let Some(values) = values_in_order(alloc, head.values, binds, values.as_slice())? else {
+        return Err(Stop::Stuck);
+    };
+    if !are_keys(keys.as_slice()) {
+        return Err(Stop::Stuck);
+    }
+    Ok(Change::create(Row {
+        fact: fact_number,
+        keys,
+        values,
+    }))
 }
 
 /// `update`, where it is known which row is wanted.
@@ -42,19 +62,36 @@ pub fn update_of(
     requires keys { IsTrue (are_keys old.keys) }
     ensures { (turns : ℕ) (out : Out (List Value)) → Gives found turns out → Gives result turns (updated_of known.now fact.now old (bind_names binds.now) out) }
 {
-    Err(Stop::NoMemory)
+    let values = found?;
+    let Some(head) = known.heads().fact_named(fact) else {
+        return Err(Stop::Stuck);
+    };
+    match values_in_order(alloc, head.values, binds, values.as_slice())? {
+        Some(values) => Ok(Change::update(old, values)),
+        None => Err(Stop::Stuck),
+    }
 }
 
 /// `delete`
 pub fn delete_of(known: &Known<'_>, fact: &Name, found: Answer<Values>) -> Answer<Change>
     ensures { (turns : ℕ) (out : Out (List Value)) → Gives found turns out → Gives result turns (deleted_of known.now fact.now out) }
 {
-    Err(Stop::NoMemory)
+    let keys = found?;
+    let Some(fact_number) = known.number_named(fact) else {
+        return Err(Stop::Stuck);
+    };
+    if !are_keys(keys.as_slice()) {
+        return Err(Stop::Stuck);
+    }
+    Ok(Change::delete(fact_number, keys))
 }
 
 /// `emit`
 pub fn emit_of(found: Answer<Value>) -> Answer<Change>
     ensures { (turns : ℕ) (out : Out Value) → Gives found turns out → Gives result turns (emitted_of out) }
 {
-    Err(Stop::NoMemory)
+    match found? {
+        Value::Struct(effect, fields) => Ok(Change::emit(Effect { effect, fields })),
+        _ => Err(Stop::Stuck),
+    }
 }

@@ -8,7 +8,6 @@ ghost use Rattle.policy_expressions.specs.Answers.{Keeps};
 
 use base_bytes::{NoMemory, Value, Values};
 use policy_ast::{Field, Name};
-use sqlite_items::Items;
 use std::alloc::Global;
 use std::marker::Model;
 
@@ -22,7 +21,7 @@ struct Binding<'a> {
 /// Names with their values, in the order in which they were introduced. The names stay in the trees. Contracts see the list of names and values.
 #[derive(Drop)]
 pub struct Env<'a> {
-    bindings: Items<Binding<'a>>,
+    bindings: Vec<Binding<'a>>,
 }
 
 impl<'a> Model for Env<'a> {
@@ -32,7 +31,7 @@ impl<'a> Model for Env<'a> {
 
     ghost Value = { List Bound };
 
-    ghost view = { λ env. env_of env.bindings };
+    ghost view = { λ env. env_of env.bindings.items };
 }
 
 impl<'a> Env<'a> {
@@ -41,7 +40,7 @@ impl<'a> Env<'a> {
         ensures { result ≡ [] }
     {
         Env {
-            bindings: Items::new(alloc),
+            bindings: Vec::new(alloc),
         }
     }
 
@@ -49,11 +48,18 @@ impl<'a> Env<'a> {
     pub fn of_parameters(
         alloc: Global,
         parameters: &'a [Field],
-        values: Values,
+        mut values: Values,
     ) -> Result<Env<'a>, NoMemory>
         ensures { IfOk result (λ env. env ≡ bound_parameters (declared parameters.now) values) }
     {
-        Ok(Env::new(alloc))
+        let mut env = Env::new(alloc);
+        for parameter in parameters {
+            if values.is_empty() {
+                return Ok(env);
+            }
+            env.push(&parameter.name, values.remove(0))?;
+        }
+        Ok(env)
     }
 
     pub fn len(&self) -> usize
@@ -87,5 +93,6 @@ impl<'a> Env<'a> {
     pub fn truncate(&mut self, len: usize)
         ensures { self.new ≡ take len self.old }
     {
+        self.bindings.truncate(len);
     }
 }

@@ -1,12 +1,14 @@
-ghost use Rattle.std.specs.Prelude.{◌≡◌, ◌<◌, ◌^◌, length, IfOk, IfSome};
+ghost use Rattle.std.specs.Prelude.{◌≡◌, ◌<◌, ◌^◌, length, map, IfOk, IfSome};
 ghost use Rattle.std.specs.Option.{option_copied};
-ghost use Rattle.policy_expressions.specs.Policies.{AreItems};
+ghost use Rattle.policy_expressions.specs.Policies.{AreItems, names_at};
+ghost use Rattle.policy_rules.specs.Heads.{enum_named};
 ghost use Rattle.policy_rules.specs.Names.{item_named, number_named};
 ghost use Rattle.policy_rules.specs.WellTyped.{items_of};
 
 use base_bytes::NoMemory;
 use policy_ast::{Item, Name};
 use policy_heads::Heads;
+use policy_rules::Named;
 use policy_types::Checked;
 use std::alloc::Global;
 use std::marker::Model;
@@ -60,6 +62,29 @@ impl<'a> Known<'a> {
         match self.heads.number_named(name) {
             Some(number) => Some(number as u32),
             None => None,
+        }
+    }
+
+    /// The variants of the enum that a name means. An ordinal has 16 bits.
+    pub fn variants_named(&self, name: &Name) -> Option<&'a [Name]>
+        ensures variants { option_copied result ≡ enum_named self.now name.now }
+        ensures few { IfSome result (λ variants. length variants.now < 2 ^ 16) }
+    {
+        self.heads.enum_named(name)
+    }
+
+    /// The fields of the item of this number, where it is a struct type.
+    pub(crate) fn fields_at(&self, number: u32) -> &[Named]
+        ensures { map (λ f. f.name) result.now ≡ names_at self.now number }
+    {
+        let number = number as usize;
+        if number < self.heads.len() {
+            match self.heads.struct_at(number) {
+                Some(fields) => fields,
+                None => &[],
+            }
+        } else {
+            &[]
         }
     }
 

@@ -19,7 +19,7 @@ mod values;
 
 pub use applying::{apply, apply_all};
 pub use arms::first_body;
-pub use change::Change;
+pub use change::{Change, Changes};
 pub use changes::{create_of, delete_of, emit_of, update_of};
 pub use env::Env;
 pub use known::Known;

@@ -7,7 +7,7 @@ ghost use Rattle.policy_meaning.specs.Finish.{Change as Listed};
 ghost use Rattle.policy_meaning.specs.Outcomes.{Done, Out, ◌>>=◌};
 ghost use Rattle.policy_expressions.specs.Answers.{Gives, Keeps, Leaves};
 
-use crate::change::Change;
+use crate::change::{Change, Changes};
 use crate::env::Env;
 use crate::stop::Answer;
 use base_bytes::{Value, Values};
@@ -31,7 +31,7 @@ pub fn push_gap(values: &mut Items<Option<Value>>, found: Answer<Value>) -> Answ
 }
 
 /// One more change.
-pub fn push_change(changes: &mut Items<Change>, found: Answer<Change>) -> Answer<()>
+pub fn push_change(changes: &mut Changes, found: Answer<Change>) -> Answer<()>
     ensures { (turns : ℕ) (out : Out Listed) → Gives found turns out → Leaves result changes.new turns (out >>= λ c turns. Done (changes.old ++ c ∷ []) turns) }
 {
     changes.push(found?)?;

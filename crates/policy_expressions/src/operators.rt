@@ -87,7 +87,7 @@ fn number(value: &Value) -> Option<i64>
     }
 }
 
-fn is_equal(value: &Value, other: &Value) -> bool
+pub(crate) fn is_equal(value: &Value, other: &Value) -> bool
     ensures { result ≡ same_value value.now other.now }
 {
     value.is_same(other)

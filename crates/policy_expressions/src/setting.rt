@@ -1,10 +1,14 @@
-ghost use Rattle.std.specs.Prelude.{◌≡◌};
+ghost use Rattle.std.specs.Prelude.{◌≡◌, ℕ};
 ghost use Rattle.policy_meaning.specs.Actions.{action_setting};
 ghost use Rattle.policy_meaning.specs.Blocks.{command_setting};
 ghost use Rattle.policy_meaning.specs.Environments.{no_setting};
+ghost use Rattle.policy_meaning.specs.Outcomes.{or_stuck};
+ghost use Rattle.policy_expressions.specs.Answers.{Gives};
 
-use base_bytes::{Id, Value};
+use crate::stop::{Answer, Stop};
+use base_bytes::{Id, Value, copy_values};
 use policy_meaning::Call;
+use std::alloc::Global;
 use std::marker::Model;
 
 /// The command that `this` means: its item number and its fields.
@@ -72,5 +76,33 @@ impl<'a> Setting<'a> {
             command_id: None,
             device: Some(device),
         }
+    }
+
+    /// A copy of the command, where there is one.
+    pub(crate) fn this(&self, alloc: Global) -> Answer<Value>
+        ensures { (turns : ℕ) → Gives result turns (or_stuck self.now.this turns) }
+    {
+        match self.this {
+            Some(this) => Ok(Value::Struct(this.command, copy_values(alloc, this.fields)?)),
+            None => Err(Stop::Stuck),
+        }
+    }
+
+    pub(crate) fn author(&self) -> Option<Id>
+        ensures { result ≡ self.now.author }
+    {
+        self.author.copied()
+    }
+
+    pub(crate) fn command_id(&self) -> Option<Id>
+        ensures { result ≡ self.now.command_id }
+    {
+        self.command_id.copied()
+    }
+
+    pub(crate) fn device(&self) -> Option<Id>
+        ensures { result ≡ self.now.device }
+    {
+        self.device.copied()
     }
 }
