@@ -1,2 +1,8 @@
-//! The plain form of running a policy: what walks its tree.
+//! What a policy does, run over its tree.
 #![tactic(auto)]
+
+mod calls;
+mod cause;
+mod expressions;
+mod flow;
+mod statements;

@@ -1,5 +1,5 @@
 -- How much room the evaluation of a tree takes: a number that falls with each call of the evaluator.
-use Rattle.std.specs.Prelude.{ℕ, zero, suc, ◌+◌, max, List, [], ◌∷◌, map, Option, Some, None}
+use Rattle.std.specs.Prelude.{ℕ, zero, suc, ◌+◌, ◌≤◌, List, [], ◌∷◌, map, Option, Some, None}
 use Rattle.policy_ast.specs.declared.bind.Bind.{Bind}
 use Rattle.policy_ast.specs.declared.expr.ElseExpr.{ElseExpr}
 use Rattle.policy_ast.specs.declared.expr.ElseExpr.TheVariants as else_expr
@@ -77,12 +77,12 @@ module _ (below : ℕ) where
   abbrev pub bind_room : Bind Expr → ℕ
   bind_room b = room b.value
 
+  abbrev pub opt_room : Option Expr → ℕ
+  opt_room None = 0
+  opt_room (Some e) = room e
+
   abbrev pub free_room : Free Expr → ℕ
-  free_room f = gap_of f.value
-    where
-      gap_of : Option Expr → ℕ
-      gap_of None = 0
-      gap_of (Some e) = room e
+  free_room f = opt_room f.value
 
   abbrev pub let_room : Let Expr → ℕ
   let_room l = room l.value
@@ -101,6 +101,9 @@ module _ (below : ℕ) where
   unfoldable pub stmt_room : Stmt → ℕ
   stmt_room s = fold-Stmt ℕ stmt_layer s
 
+  abbrev pub arm_room : Arm Stmt → ℕ
+  arm_room a = total stmt_room a.body
+
 -- the body of an item that is called
 abbrev pub item_room : ℕ → Item → ℕ
 item_room below (item.Function name parameters result body) = total (stmt_room below) body
@@ -110,3 +113,11 @@ item_room below other = 0
 abbrev pub call_room : List Item → ℕ → ℕ
 call_room items zero = 0
 call_room items (suc depth) = total (item_room (call_room items depth)) items + 2
+
+-- Statements take no more room than all bodies of functions together.
+abbrev pub IsBodyOf : List Item → List Stmt → Type 0
+IsBodyOf items body = (below : ℕ) → total (stmt_room below) body ≤ total (item_room below) items
+
+-- Statements take no more room than all arms together.
+abbrev pub IsAmongArms : List Stmt → List (Arm Stmt) → Type 0
+IsAmongArms body arms = (below : ℕ) → total (stmt_room below) body ≤ total (arm_room below) arms
