@@ -1,6 +1,6 @@
 -- Blocks of actions statement by statement, and `map` row by row.
 use Rattle.std.proofs.Common.{◌≡◌, ◌≤◌, ◌<◌, ◌==◌, ◌-◌, ℕ, zero, suc, ◌+◌, Bool, true, false, cond, List, [], ◌∷◌, ◌++◌, length, take, drop, get_or, Option, Some, None, Result, Ok, Err, refl, sym, ap, subst, ◌∙◌, arith, add-one}
-use Rattle.std.proofs.Math.Seq.{drop-cons, drop-length}
+use Rattle.std.proofs.Math.Seq.{drop-cons}
 use Rattle.std.proofs.lemmas.List.{take-append-le, take-append-drop}
 use Rattle.fact_store.specs.declared.row.Row.{Row}
 use Rattle.policy_ast.specs.declared.item.Item.{Item}
@@ -21,13 +21,19 @@ use Rattle.policy_eval.proofs.ActForms.{begins, fails, inside_told, stops_all, s
 use Rattle.policy_eval.proofs.ActingFacts.{acted_all, acted_on, acted_still, acted_to, goes_from, goes_into}
 use Rattle.policy_eval.proofs.DeedForms.{then_same}
 use Rattle.policy_eval.specs.declared.cause.Cause.{Cause}
-use Rattle.policy_eval.specs.working.Acting.{Acted, Acts, GoesWell, Standing, StopsFor, halted, reason, standing, world}
+use Rattle.policy_eval.specs.working.Acting.{Acted, Acts, GoesWell, Standing, StopsFor, halted, reason, settled, standing, world}
 use Rattle.policy_eval.specs.working.ActionSteps.{BlockSoFar, RowsSoFar}
 use Rattle.policy_eval.specs.working.Deeds.{deed, deeds}
 
 -- what is left of a list at a place
 left_at : {A : Type 0} (xs : List A) (i : ℕ) (x : A) → i < length xs → x ≡ get_or xs i x → drop i xs ≡ x ∷ drop (i + 1) xs
 left_at xs i x lt is = drop-cons xs i x lt ∙ ap (λ y. y ∷ drop (suc i) xs) (sym is) ∙ ap (λ n. x ∷ drop n xs) (sym (add-one i))
+
+past : {A : Type 0} (xs : List A) (i : ℕ) → length xs ≤ i → drop i xs ≡ []
+past [] zero le = refl
+past [] (suc i) le = refl
+past (x ∷ xs) zero le = absurd (omega (arith, le))
+past (x ∷ xs) (suc i) le = past xs i (omega (arith, le))
 
 -- names that are kept, one after another
 pub keeps_all : {A : Type 0} (xs : List A) → Keeps xs xs
@@ -36,17 +42,15 @@ keeps_all (x ∷ xs) = ap (λ xs. x ∷ xs) (keeps_all xs)
 
 pub keeps_both : {A : Type 0} (first second third : List A) → Keeps first second → Keeps second third → Keeps first third
 keeps_both [] second third one other = refl
-keeps_both (x ∷ first) [] third one other = absurd (cc)
-keeps_both (x ∷ first) (y ∷ second) [] one other = absurd (cc)
+keeps_both (x ∷ first) [] third one other = cc
+keeps_both (x ∷ first) (y ∷ second) [] one other = cc
 keeps_both (x ∷ first) (y ∷ second) (z ∷ third) one other =
-    let heads : z ≡ x = cons_first other ∙ cons_first one in
-    ap (λ z. z ∷ take (length first) third) heads ∙ ap (λ xs. x ∷ xs) (keeps_both first second third (cons_rest one) (cons_rest other))
-  where
-    cons_first : {x y : A} {xs ys : List A} → x ∷ xs ≡ y ∷ ys → x ≡ y
-    cons_first is = cc
-
-    cons_rest : {x y : A} {xs ys : List A} → x ∷ xs ≡ y ∷ ys → xs ≡ ys
-    cons_rest is = cc
+    let xy : y ≡ x = cc in
+    let yz : z ≡ y = cc in
+    let e : take (length first) second ≡ first = cc in
+    let h : take (length second) third ≡ second = cc in
+    let r : take (length first) third ≡ first = keeps_both first second third e h in
+    cc
 
 pub keeps_one : {A : Type 0} (xs : List A) (x : A) → Keeps xs (xs ++ x ∷ [])
 keeps_one [] x = refl
@@ -70,7 +74,7 @@ module _ {D : Type 0} (publishes : D → List Row → Posting → D → Type 0) 
     module _ {i : ℕ} {env : Env} {old now : Standing D} (so_far : BlockSoFar publishes policy items setting body first i env old now) (s : Stmt) (lt : i < length body) (is : s ≡ get_or body i s) where
       pub block_next : Acted publishes policy (inside (deeds items setting body) first) (λ w. deed items setting s env w >>> behind i) old now
       block_next = acted_to publishes policy (inside (deeds items setting body) first) _ _ old now
-          (λ w. ap (λ more. deeds items setting more env w >>> λ inner w. Did first w) (left_at body i s lt is) ∙ three (deed items setting s env w) (deeds items setting (drop (i + 1) body)) (λ inner w. Did first w)) so_far.acted
+          (λ w. ap settled (ap (λ more. deeds items setting more env w >>> λ inner w. Did first w) (left_at body i s lt is) ∙ three (deed items setting s env w) (deeds items setting (drop (i + 1) body)) (λ inner w. Did first w))) so_far.acted
 
       pub block_goes : GoesWell policy (inside (deeds items setting body) first) old.rows old.turns → GoesWell policy (deed items setting s env) now.rows now.turns
       block_goes goes = goes_into policy (deed items setting s env) (behind i) now.rows now.turns (goes_from publishes policy (inside (deeds items setting body) first) _ old now goes block_next)
@@ -87,7 +91,7 @@ module _ {D : Type 0} (publishes : D → List Row → Posting → D → Type 0) 
     pub block_ends : {i : ℕ} {env : Env} {old now : Standing D} → BlockSoFar publishes policy items setting body first i env old now → length body ≤ i
         → Acted publishes policy (inside (deeds items setting body) first) (Did first) old now
     block_ends {i} {env} {old} {now} so_far le = acted_to publishes policy (inside (deeds items setting body) first) _ (Did first) old now
-        (λ w. ap (λ more. deeds items setting more env w >>> λ inner w. Did first w) (drop-length i body le)) so_far.acted
+        (λ w. ap (λ more. settled (deeds items setting more env w >>> λ inner w. Did first w)) (past body i le)) so_far.acted
 
   -- ---- the rows of a `map`
 
@@ -121,13 +125,13 @@ module _ {D : Type 0} (publishes : D → List Row → Posting → D → Type 0) 
       -- no turn is left for a row
       pub row_fails : (why : Halted) → HaltsBy why (entered row now.turns) → StopsFor publishes policy (halted why) (each_row name (deeds items setting body) first all) old (record now { turns = left })
       row_fails why stops = stops_all publishes policy (halted why) (each_row name (deeds items setting body) first all) (each_row name (deeds items setting body) first (row ∷ more)) old now (record now { turns = left }) so_far.acted
-          (fails publishes policy (each_row name (deeds items setting body) first (row ∷ more)) (λ rows turns. entered row turns) (λ env w. inside (deeds items setting body) env w >>> next more) (row_is row more) now.desk now.rows now.turns left now.ticks
+          (fails publishes policy (each_row name (deeds items setting body) first (row ∷ more)) (λ rows turns. entered row turns) (λ env w. inside (deeds items setting body) env w >>> next more) (λ w. ap settled (row_is row more w)) now.desk now.rows now.turns left now.ticks
           so_far.acted.typed why stops)
 
       module _ (inner : Env) (gives : entered row now.turns ≡ Done inner left) where
         pub row_enters : Acted publishes policy (each_row name (deeds items setting body) first all) (λ w. inside (deeds items setting body) inner w >>> next more) old (record now { turns = left })
         row_enters = acted_all publishes policy (each_row name (deeds items setting body) first all) (each_row name (deeds items setting body) first (row ∷ more)) _ old now (record now { turns = left }) so_far.acted
-            (begins publishes policy (each_row name (deeds items setting body) first (row ∷ more)) (λ rows turns. entered row turns) (λ env w. inside (deeds items setting body) env w >>> next more) (row_is row more) now.desk now.rows now.turns left now.ticks
+            (begins publishes policy (each_row name (deeds items setting body) first (row ∷ more)) (λ rows turns. entered row turns) (λ env w. inside (deeds items setting body) env w >>> next more) (λ w. ap settled (row_is row more w)) now.desk now.rows now.turns left now.ticks
             so_far.acted.typed inner gives)
 
         pub row_goes : GoesWell policy (each_row name (deeds items setting body) first all) old.rows old.turns → GoesWell policy (inside (deeds items setting body) inner) now.rows left

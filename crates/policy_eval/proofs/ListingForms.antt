@@ -15,7 +15,7 @@ use Rattle.policy_expressions.specs.Meant.{binds_meant, meant, values_meant, wan
 use Rattle.policy_meaning.specs.Environments.{Env, Setting, bound_parameters, no_setting}
 use Rattle.policy_meaning.specs.Expressions.{Meaning}
 use Rattle.policy_meaning.specs.Finish.{Change, all_listed, finish_called, finish_entered, listed}
-use Rattle.policy_meaning.specs.Functions.{expression, finish, finish_expression}
+use Rattle.policy_meaning.specs.Functions.{expression, finish}
 use Rattle.policy_meaning.specs.Outcomes.{Out, Done, Ends, Fault, Stuck, ◌>>=◌, all_in_order, or_stuck, with_turn}
 use Rattle.policy_meaning.specs.declared.ends.FaultKind.TheVariants as fault
 use Rattle.policy_rules.specs.Calls.{longest_chain}
@@ -58,14 +58,10 @@ one_then (Ends halt) f g same = refl
 
 module _ (items : List Item) (rows : List Row) where
   module _ (setting : Setting) where
-    binds_same : (binds : List (Bind Expr)) → map (expression items rows setting) (map (λ b. b.value) binds) ≡ map (λ b. meant items rows setting longest_chain b.value) binds
-    unfolding meant
-    binds_same [] = refl
-    binds_same (b ∷ binds) = ap (λ ms. expression items rows setting b.value ∷ ms) (binds_same binds)
-
     binds_all : (binds : List (Bind Expr)) (env : Env) (turns : ℕ)
         → all_in_order (map (expression items rows setting) (map (λ b. b.value) binds)) env turns ≡ binds_meant items rows setting longest_chain binds env turns
-    binds_all binds env turns = ap (λ ms. all_in_order ms env turns) (binds_same binds)
+    unfolding meant
+    binds_all binds env turns = refl
 
     module _ (depth : ℕ) (env : Env) (turns : ℕ) where
       pub create_listed : (fact : Name) (keys values : List (Bind Expr)) → stmt_listed items rows setting depth (finish.Create fact keys values) env turns ≡ one (change_listed items rows setting (finish.Create fact keys values) env turns)
@@ -93,16 +89,17 @@ module _ (items : List Item) (rows : List Row) where
       call_listed called arguments = refl
 
     pub stmts_same : (depth : ℕ) (statements : List FinishStmt) (env : Env) (turns : ℕ)
-        → all_listed items (expression items rows setting) (finish_called items (finish_expression items rows) depth) statements env turns ≡ stmts_listed items rows setting depth statements env turns
+        → all_listed items (expression items rows setting) (finish_called items (expression items rows no_setting) depth) statements env turns ≡ stmts_listed items rows setting depth statements env turns
     unfolding stmt_listed
     stmts_same depth [] env turns = refl
-    stmts_same depth (s ∷ more) env turns = by (stmt_listed items rows setting depth s env turns)
+    stmts_same depth (s ∷ more) env turns = by (stmt_listed items rows setting depth s env turns) (stmts_same depth more env)
       where
         by : (out : Out (List Change))
-            → (out >>= λ first turns. all_listed items (expression items rows setting) (finish_called items (finish_expression items rows) depth) more env turns >>= λ rest turns. Done (first ++ rest) turns)
+            → ((turns : ℕ) → all_listed items (expression items rows setting) (finish_called items (expression items rows no_setting) depth) more env turns ≡ stmts_listed items rows setting depth more env turns)
+            → (out >>= λ first turns. all_listed items (expression items rows setting) (finish_called items (expression items rows no_setting) depth) more env turns >>= λ rest turns. Done (first ++ rest) turns)
             ≡ (out >>= λ first turns. stmts_listed items rows setting depth more env turns >>= λ rest turns. Done (first ++ rest) turns)
-        by (Done first turns) = ap (λ out. out >>= λ rest turns. Done (first ++ rest) turns) (stmts_same depth more env turns)
-        by (Ends halt) = refl
+        by (Done first turns) later = ap (λ out. out >>= λ rest turns. Done (first ++ rest) turns) (later turns)
+        by (Ends halt) later = refl
 
   -- ---- calls of finish functions
 
@@ -114,14 +111,14 @@ module _ (items : List Item) (rows : List Row) where
       → finish_call items rows (suc depth) called values turns ≡ with_turn (stmts_listed items rows no_setting depth body (bound_parameters (declared parameters) values)) turns
   unfolding finish_call
   call_enters depth called name parameters body values turns is =
-      ap (λ o. finish_entered (all_listed items (finish_expression items rows) (finish_called items (finish_expression items rows) depth)) values o turns) is
+      ap (λ o. finish_entered (all_listed items (expression items rows no_setting) (finish_called items (expression items rows no_setting) depth)) values o turns) is
       ∙ ap (λ out. cond (turns == 0) (Ends (Fault fault.Turns)) out) (stmts_same no_setting depth body (bound_parameters (declared parameters) values) (turns - 1))
 
   -- nothing else can be called so
   pub call_sticks : (depth : ℕ) (called : Name) (values : List Value) (turns : ℕ) → ((statements : List FinishStmt → Env → ℕ → Out (List Change)) → finish_entered statements values (item_named items called) turns ≡ Ends Stuck)
       → finish_call items rows (suc depth) called values turns ≡ Ends Stuck
   unfolding finish_call
-  call_sticks depth called values turns none = none (all_listed items (finish_expression items rows) (finish_called items (finish_expression items rows) depth))
+  call_sticks depth called values turns none = none (all_listed items (expression items rows no_setting) (finish_called items (expression items rows no_setting) depth))
 
 -- ---- the whole block
 

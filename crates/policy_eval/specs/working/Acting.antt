@@ -4,7 +4,7 @@ use Rattle.fact_store.specs.declared.row.Row.{Row}
 use Rattle.policy_ast.specs.declared.policy.PlacedItem.{PlacedItem}
 use Rattle.policy_expressions.specs.declared.stop.Stop.{Stop as Halted}
 use Rattle.policy_expressions.specs.declared.stop.Stop.TheVariants as stop
-use Rattle.policy_meaning.specs.Actions.{Answer, Brought, Deed, Did, Stops, Stop, Halts, IsRefused, Asks, World}
+use Rattle.policy_meaning.specs.Actions.{Answer, Brought, Deed, Did, Stops, Stop, Halts, IsRefused, Asks, World, with_turns}
 use Rattle.policy_meaning.specs.Desks.{Chain, Posting, answer, brought, total}
 use Rattle.policy_meaning.specs.Outcomes.{Check, Fault, Stuck}
 use Rattle.policy_meaning.specs.Typed.{AreTyped}
@@ -26,6 +26,11 @@ standing desk rows turns ticks = record { desk = desk; rows = rows; turns = turn
 abbrev pub world : List Row → List Answer → List Brought → ℕ → World
 world rows left made turns = record { rows = rows; left = left; made = made; turns = turns }
 
+-- A deed, but for the turns that are left where it stops.
+abbrev pub settled : {A : Type 0} → Deed A → Deed A
+settled (Did x w) = Did x w
+settled (Stops why w) = Stops why (with_turns w 0)
+
 -- From one standing to another by postings of the desk's relation: with just these answers the one deed comes to what is left to do. The facts behind
 -- each answer are typed.
 pub record Acted {D A : Type 0} (publishes : D → List Row → Posting → D → Type 0) (policy : List PlacedItem) (deed rest : World → Deed A) (old new : Standing D) : Type 0 where
@@ -34,7 +39,7 @@ pub record Acted {D A : Type 0} (publishes : D → List Row → Posting → D �
   pub counted : new.ticks ≡ old.ticks + total postings
   pub answers : LeaveTyped policy (map answer postings)
   pub typed : AreTyped policy new.rows
-  pub acts : (left : List Answer) (made : List Brought) → deed (world old.rows (map answer postings ++ left) made old.turns) ≡ rest (world new.rows left (made ++ map brought postings) new.turns)
+  pub acts : (left : List Answer) (made : List Brought) → settled (deed (world old.rows (map answer postings ++ left) made old.turns)) ≡ settled (rest (world new.rows left (made ++ map brought postings) new.turns))
 
 -- ---- why a part of an action stops
 
@@ -54,14 +59,10 @@ abbrev pub caused : {A : Type 0} → Result A Halted → Result A Cause
 caused (Ok x) = Ok x
 caused (Err why) = Err (cause.Stop why)
 
--- It stopped for this reason, whatever turns were left.
-pub record Stopped {D A : Type 0} (publishes : D → List Row → Posting → D → Type 0) (policy : List PlacedItem) (why : Stop) (deed : World → Deed A) (old new : Standing D) : Type 0 where
-  pub turns : ℕ
-  pub acted : Acted publishes policy deed (Stops why) old (record { desk = new.desk; rows = new.rows; turns = turns; ticks = new.ticks })
-
+-- It stopped for this reason.
 abbrev pub StopsFor : {D A : Type 0} → (D → List Row → Posting → D → Type 0) → List PlacedItem → Option Stop → (World → Deed A) → Standing D → Standing D → Type 0
 StopsFor publishes policy None deed old new = Unit {0}
-StopsFor publishes policy (Some why) deed old new = Stopped publishes policy why deed old new
+StopsFor publishes policy (Some why) deed old new = Acted publishes policy deed (Stops why) old new
 
 -- It was done, and left this; or it stopped.
 abbrev pub Acts : {D A X : Type 0} → (D → List Row → Posting → D → Type 0) → List PlacedItem → Result X Cause → A → (World → Deed A) → Standing D → Standing D → Type 0

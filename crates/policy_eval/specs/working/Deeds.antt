@@ -1,11 +1,12 @@
 -- What statements of actions do, under names that proofs of code keep shut.
-use Rattle.std.specs.Prelude.{List, [], ◌∷◌, Option, Some, None}
+use Rattle.std.specs.Prelude.{ℕ, List, [], ◌∷◌, Option, Some, None}
+use Rattle.base_bytes.specs.declared.value.Value.{Value}
 use Rattle.policy_ast.specs.declared.item.Item.{Item}
 use Rattle.policy_ast.specs.declared.statement.Else.{Else}
 use Rattle.policy_ast.specs.declared.statement.Else.TheVariants as else_stmt
 use Rattle.policy_ast.specs.declared.statement.Stmt.{Stmt}
-use Rattle.policy_meaning.specs.Actions.{Act, Did, Halts, Stops, ◌>>>◌, act}
-use Rattle.policy_meaning.specs.Environments.{Setting}
+use Rattle.policy_meaning.specs.Actions.{Act, Deed, Did, Halts, Stops, World, ◌>>>◌, act, action_deed}
+use Rattle.policy_meaning.specs.Environments.{Env, Setting}
 use Rattle.policy_meaning.specs.Functions.{expression}
 use Rattle.policy_meaning.specs.Outcomes.{Stuck}
 
@@ -28,3 +29,11 @@ else_deed items setting (Some (else_stmt.If s)) env w = deed items setting s env
 abbrev pub arm_deed : List Item → Setting → Option (List Stmt) → Act
 arm_deed items setting (Some body) env w = deeds items setting body env w
 arm_deed items setting None env w = Stops (Halts Stuck) w
+
+-- the end, where nobody asks for the names
+abbrev pub finished : Env → World → Deed (Unit {0})
+finished env w = Did tt w
+
+-- the whole action
+abbrev pub whole : List Item → List ℕ → List Value → Option Item → World → Deed (Unit {0})
+whole items device arguments o w = action_deed items device arguments o w >>> finished

@@ -7,9 +7,9 @@ use Rattle.policy_ast.specs.declared.finish.FinishStmt.TheVariants as finish
 use Rattle.policy_ast.specs.declared.item.Item.{Item}
 use Rattle.policy_expressions.specs.Forms.{created_of, deleted_of, emitted_of, updated_of}
 use Rattle.policy_expressions.specs.Meant.{binds_meant, meant, wanted_meant}
-use Rattle.policy_meaning.specs.Environments.{Env, Setting}
+use Rattle.policy_meaning.specs.Environments.{Env, Setting, no_setting}
 use Rattle.policy_meaning.specs.Finish.{Change, bind_names, finish_called, listing}
-use Rattle.policy_meaning.specs.Functions.{expression, finish_expression}
+use Rattle.policy_meaning.specs.Functions.{expression}
 use Rattle.policy_meaning.specs.Outcomes.{Out, Done, Ends, Stuck, ◌>>=◌}
 use Rattle.policy_rules.specs.Calls.{longest_chain}
 use Rattle.policy_rules.specs.Names.{Name}
@@ -25,7 +25,7 @@ one out = out >>= λ c turns. Done (c ∷ []) turns
 module _ (items : List Item) (rows : List Row) where
   -- a call of a finish function, in a chain of at most so many
   unfoldable pub finish_call : ℕ → Name → List Value → ℕ → Out (List Change)
-  finish_call depth called values turns = finish_called items (finish_expression items rows) depth called values turns
+  finish_call depth called values turns = finish_called items (expression items rows no_setting) depth called values turns
 
   module _ (setting : Setting) where
     -- a write or an effect
@@ -41,7 +41,7 @@ module _ (items : List Item) (rows : List Row) where
     module _ (depth : ℕ) where
       -- a statement of `finish`
       unfoldable pub stmt_listed : FinishStmt → Env → ℕ → Out (List Change)
-      stmt_listed s env turns = listing items (expression items rows setting) (finish_called items (finish_expression items rows) depth) s env turns
+      stmt_listed s env turns = listing items (expression items rows setting) (finish_called items (expression items rows no_setting) depth) s env turns
 
       -- statements one after another
       abbrev pub stmts_listed : List FinishStmt → Env → ℕ → Out (List Change)
