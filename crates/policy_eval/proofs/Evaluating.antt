@@ -103,21 +103,23 @@ module _ {A : Type 0} (means : Env → ℕ → Out A) (before : Env) (turns : �
           kept = p.kept;
         }
 
-    chosen : (b : Bool) → ((n : ℕ) (out : Out Value) → Gives found n out → Gives (Ok b) n (truth_of out)) → means before turns ≡ branch (Some b) first second between
-    chosen b tested =
+    chosen : (b d : Bool) → b ≡ d → ((n : ℕ) (out : Out Value) → Gives found n out → Gives (Ok b) n (truth_of out)) → means before turns ≡ branch (Some d) first second between
+    chosen b d same tested =
         is ∙ looked_up b between (one before turns) truth (λ v turns. branch (truth v) first second turns) (branch (Some b) first second) (λ v n some. ap (λ o. branch o first second n) some)
         (tested between (one before turns) p.gives)
+        ∙ ap (λ b. branch (Some b) first second between) same
 
     -- the test alone decides
-    pub test_ends : (b : Bool) (x : A) → ((n : ℕ) (out : Out Value) → Gives found n out → Gives (Ok b) n (truth_of out)) → ((n : ℕ) → branch (Some b) first second n ≡ Done x n)
+    pub test_ends : (b d : Bool) (x : A) → b ≡ d → ((n : ℕ) (out : Out Value) → Gives found n out → Gives (Ok b) n (truth_of out)) → ((n : ℕ) → branch (Some d) first second n ≡ Done x n)
         → Evaluates (Ok x) means before middle turns between
-    test_ends b x tested ends = record { gives = chosen b tested ∙ ends between; kept = p.kept }
+    test_ends b d x same tested ends = record { gives = chosen b d same tested ∙ ends between; kept = p.kept }
 
     -- the side that it chooses decides
-    pub test_goes : {r : Result A Stop} {two : Env → ℕ → Out A} {after : Env} {left : ℕ} (b : Bool) → ((n : ℕ) (out : Out Value) → Gives found n out → Gives (Ok b) n (truth_of out))
-        → ((n : ℕ) → branch (Some b) first second n ≡ two before n) → Evaluates r two middle after between left → Evaluates r means before after turns left
-    test_goes {r = r} {two = two} {left = left} b tested goes q =
+    pub test_goes : {r : Result A Stop} {two : Env → ℕ → Out A} {after : Env} {left : ℕ} (b d : Bool) → b ≡ d
+        → ((n : ℕ) (out : Out Value) → Gives found n out → Gives (Ok b) n (truth_of out)) → ((n : ℕ) → branch (Some d) first second n ≡ two before n)
+        → Evaluates r two middle after between left → Evaluates r means before after turns left
+    test_goes {r = r} {two = two} {left = left} b d same tested goes q =
         record {
-          gives = subst (λ o. Gives r left o) (sym (chosen b tested ∙ goes between)) (subst (λ env. Gives r left (two env between)) p.kept q.gives);
+          gives = subst (λ o. Gives r left o) (sym (chosen b d same tested ∙ goes between)) (subst (λ env. Gives r left (two env between)) p.kept q.gives);
           kept = q.kept ∙ p.kept;
         }

@@ -1,4 +1,11 @@
 -- Lemmas of this crate.
+mod Evaluating
+mod Loops
+mod MeaningForms
+mod StatementForms
+mod RoomForms
+mod Running
+mod Flows
 mod ActingFacts
 mod DeedForms
 mod ActForms

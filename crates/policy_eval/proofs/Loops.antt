@@ -1,7 +1,7 @@
 -- Evaluations in order: what was found so far, and what is left.
 use Rattle.std.proofs.Common.{◌≡◌, ℕ, ◌+◌, ◌<◌, ◌≤◌, suc, List, [], ◌∷◌, ◌++◌, length, take, drop, get_or, map, Option, Some, None, option_map, Result, Ok, Err, refl, sym, ap, subst, ◌∙◌, arith, add-one}
-use Rattle.std.proofs.Math.Seq.{drop-cons, drop-length}
-use Rattle.std.proofs.lemmas.List.{append_assoc, append-nil, length-append, take-append-le, take-length}
+use Rattle.std.proofs.Math.Seq.{drop-cons, drop-length, take-length}
+use Rattle.std.proofs.lemmas.List.{append_assoc, append-nil, length-append}
 use Rattle.base_bytes.specs.declared.value.Value.{Value}
 use Rattle.fact_store.specs.declared.row.Row.{Row}
 use Rattle.policy_ast.specs.declared.bind.Bind.{Bind}
@@ -12,11 +12,12 @@ use Rattle.policy_ast.specs.declared.pattern.Free.{Free}
 use Rattle.policy_eval.proofs.Evaluating.{stops_by, stops_then}
 use Rattle.policy_eval.specs.working.Endings.{Evaluates, EvaluatesWithin}
 use Rattle.policy_expressions.specs.Answers.{Gives, Keeps, Leaves, Stops}
-use Rattle.policy_expressions.specs.Meant.{binds_meant, gaps_meant, lets_meant, meant, values_meant}
+use Rattle.policy_expressions.specs.Meant.{block_meant, gaps_meant, lets_meant, meant}
 use Rattle.policy_expressions.specs.declared.stop.Stop.{Stop}
 use Rattle.policy_expressions.specs.declared.stop.Stop.TheVariants as stop
 use Rattle.policy_meaning.specs.Environments.{Env, Setting, with_value}
 use Rattle.policy_meaning.specs.Outcomes.{Out, Done, Ends, ◌>>=◌}
+use Rattle.policy_meaning.specs.Patterns.{gaps_in_order}
 use Rattle.policy_rules.specs.Names.{Name}
 
 -- what is left at a place: the element there, and what is left behind it
@@ -31,11 +32,20 @@ keeps_all env = take-length env
 pub keeps_same : (before after : Env) → after ≡ before → Keeps before after
 keeps_same before after is = subst (λ env. Keeps before env) (sym is) (keeps_all before)
 
-keeps_longer : (before after : Env) → Keeps before after → length before ≤ length after
-keeps_longer before after p = ?
+taken_in : {A : Type 0} (first second third : List A) → take (length first) second ≡ first → take (length second) third ≡ second → take (length first) third ≡ first
+taken_in [] second third one other = refl
+taken_in (x ∷ first) [] third one other = cc
+taken_in (x ∷ first) (y ∷ second) [] one other = cc
+taken_in (x ∷ first) (y ∷ second) (z ∷ third) one other =
+    let xy : y ≡ x = cc in
+    let yz : z ≡ y = cc in
+    let e : take (length first) second ≡ first = cc in
+    let h : take (length second) third ≡ second = cc in
+    let r : take (length first) third ≡ first = taken_in first second third e h in
+    cc
 
 pub keeps_both : (before middle after : Env) → Keeps before middle → Keeps middle after → Keeps before after
-keeps_both before middle after p q = ?
+keeps_both before middle after one other = taken_in before middle after one other
 
 -- ---- a list that is made element by element
 
@@ -142,16 +152,29 @@ module _ {A B : Type 0} (of : List A → Env → ℕ → Out (List B)) (one : A 
 -- ---- what the steps of these lists are
 
 module _ (items : List Item) (rows : List Row) (setting : Setting) (depth : ℕ) where
-  abbrev pub gap_meant : Free Expr → Env → ℕ → Out (Option Value)
-  gap_meant f env turns = by f.value
-    where
-      by : Option Expr → Out (Option Value)
-      by None = Done None turns
-      by (Some e) = meant items rows setting depth e env turns >>= λ v turns. Done (Some v) turns
+  -- what an expression means where a `?` has no value
+  abbrev pub opt_meant : Option Expr → Env → ℕ → Out (Option Value)
+  opt_meant None env turns = Done None turns
+  opt_meant (Some e) env turns = meant items rows setting depth e env turns >>= λ v turns. Done (Some v) turns
 
-  pub gap_step : (f : Free Expr) (frees : List (Free Expr)) (env : Env) (turns : ℕ) → gaps_meant items rows setting depth (f ∷ frees) env turns
-      ≡ (gap_meant f env turns >>= λ v turns. gaps_meant items rows setting depth frees env turns >>= λ vs turns. Done (v ∷ vs) turns)
-  gap_step f frees env turns = ?
+  abbrev pub free_meant : Free Expr → Env → ℕ → Out (Option Value)
+  free_meant f env turns = opt_meant f.value env turns
+
+  pub free_step : (f : Free Expr) (frees : List (Free Expr)) (env : Env) (turns : ℕ) → gaps_meant items rows setting depth (f ∷ frees) env turns
+      ≡ (free_meant f env turns >>= λ v turns. gaps_meant items rows setting depth frees env turns >>= λ vs turns. Done (v ∷ vs) turns)
+  free_step f frees env turns = by f.value
+    where
+      by : (o : Option Expr) → gaps_in_order (option_map (meant items rows setting depth) o ∷ map (λ f. option_map (meant items rows setting depth) f.value) frees) env turns
+          ≡ (opt_meant o env turns >>= λ v turns. gaps_meant items rows setting depth frees env turns >>= λ vs turns. Done (v ∷ vs) turns)
+      by None = refl
+      by (Some e) =
+          sym (bind_assoc (meant items rows setting depth e env turns) (λ v turns. Done (Some v) turns) (λ v turns. gaps_meant items rows setting depth frees env turns >>= λ vs turns. Done (v ∷ vs) turns))
+
+  pub value_gap : (f : Free Expr) (e : Expr) → f.value ≡ Some e → (env : Env) (n : ℕ) → free_meant f env n ≡ (meant items rows setting depth e env n >>= λ v turns. Done (Some v) turns)
+  value_gap f e is env n = ap (λ o. opt_meant o env n) is
+
+  pub no_value_gap : (f : Free Expr) → f.value ≡ None → (env : Env) (n : ℕ) → free_meant f env n ≡ Done None n
+  no_value_gap f is env n = ap (λ o. opt_meant o env n) is
 
   -- ---- names behind `let`s
 
@@ -167,3 +190,65 @@ module _ (items : List Item) (rows : List Row) (setting : Setting) (depth : ℕ)
       → lets_meant items rows setting depth lets before turns
       ≡ (meant items rows setting depth l.value now left >>= λ v n. lets_meant items rows setting depth (drop (i + 1) lets) (with_value now l.name v) n)
   here {lets} {before} {now} {turns} {left} {i} p l lt is = sym p.rest ∙ ap (λ lets. lets_meant items rows setting depth lets now left) (left_at lets i l lt is)
+
+  pub led_on : {lets : List (Let Expr)} {before now middle after : Env} {turns left then' i : ℕ} {found : Result Value Stop} → Led lets before now turns left i → (l : Let Expr) → i < length lets
+      → l ≡ get_or lets i l → Evaluates found (meant items rows setting depth l.value) now middle left then'
+      → ((n : ℕ) (out : Out Value) → Gives found n out → Leaves {B = Unit {0}} (Ok tt) after n (out >>= λ v n. Done (with_value middle l.name v) n)) → Keeps middle after
+      → Led lets before after turns then' (i + 1)
+  led_on {lets} {before} {now} {middle} {after} {turns} {left} {then'} {i} p l lt is q leads keeps =
+      record {
+        rest =
+            sym
+            (here p l lt is
+            ∙ by (meant items rows setting depth l.value now left)
+            (subst (λ env. (meant items rows setting depth l.value now left >>= λ v n. Done (with_value env l.name v) n) ≡ Done after then') q.kept (leads then' (meant items rows setting depth l.value now left) q.gives)));
+        keeps = keeps_both before middle after (subst (λ env. Keeps before env) (sym q.kept) p.keeps) keeps;
+      }
+    where
+      by : (out : Out Value) → (out >>= λ v n. Done (with_value now l.name v) n) ≡ Done after then'
+          → (out >>= λ v n. lets_meant items rows setting depth (drop (i + 1) lets) (with_value now l.name v) n) ≡ lets_meant items rows setting depth (drop (i + 1) lets) after then'
+      by (Ends halt) is = absurd cc
+      by (Done v n) is =
+          let same : n ≡ then' = cc in
+          let names : with_value now l.name v ≡ after = cc in
+          ap (λ env. lets_meant items rows setting depth (drop (i + 1) lets) env n) names ∙ ap (λ n. lets_meant items rows setting depth (drop (i + 1) lets) after n) same
+
+  -- a `let` stops
+  pub let_stops : {lets : List (Let Expr)} {before now middle after : Env} {turns left then' i : ℕ} {found : Result Value Stop} → Led lets before now turns left i → (l : Let Expr) (e : Expr)
+      (why : Stop) → i < length lets → l ≡ get_or lets i l → Evaluates found (meant items rows setting depth l.value) now middle left then'
+      → ((n : ℕ) (out : Out Value) → Gives found n out → Leaves {B = Unit {0}} (Err why) after n (out >>= λ v n. Done (with_value middle l.name v) n)) → Keeps middle after
+      → EvaluatesWithin {A = Value} (Err why) (block_meant items rows setting depth (record { lets = lets; value = e })) before after turns then'
+  let_stops {lets} {before} {now} {middle} {after} {turns} {left} {then'} {i} p l e why lt is q leads keeps =
+      record {
+        gives =
+            stops_by why (ap (λ (out : Out Env). out >>= λ inner n. meant items rows setting depth e inner n) (here p l lt is))
+            (by why (meant items rows setting depth l.value now left)
+            (subst (λ env. Stops why (meant items rows setting depth l.value now left >>= λ v n. Done (with_value env l.name v) n)) q.kept (leads then' (meant items rows setting depth l.value now left) q.gives)));
+        kept = keeps_both before middle after (subst (λ env. Keeps before env) (sym q.kept) p.keeps) keeps;
+      }
+    where
+      by : (why : Stop) (out : Out Value) → Stops why (out >>= λ v n. Done (with_value now l.name v) n)
+          → Stops {A = Value} why ((out >>= λ v n. lets_meant items rows setting depth (drop (i + 1) lets) (with_value now l.name v) n) >>= λ inner n. meant items rows setting depth e inner n)
+      by stop.Check (Done v n) is = absurd cc
+      by (stop.Fault kind) (Done v n) is = absurd cc
+      by stop.Stuck (Done v n) is = absurd cc
+      by stop.Check (Ends halt) is = cc
+      by (stop.Fault kind) (Ends halt) is = cc
+      by stop.Stuck (Ends halt) is = cc
+      by stop.NoMemory out is = tt
+
+  -- the block's value is left
+  pub let_ends : {lets : List (Let Expr)} {before now after : Env} {turns left then' i : ℕ} {r : Result Value Stop} → Led lets before now turns left i → (e : Expr) → i ≡ length lets
+      → Evaluates r (meant items rows setting depth e) now after left then' → EvaluatesWithin r (block_meant items rows setting depth (record { lets = lets; value = e })) before after turns then'
+  let_ends {lets} {before} {now} {after} {turns} {left} {then'} {i} {r} p e is q =
+      record {
+        gives =
+            subst (λ (out : Out Env). Gives r then' (out >>= λ inner n. meant items rows setting depth e inner n))
+            (sym (ap (λ lets. lets_meant items rows setting depth lets now left) (ap (λ n. drop n lets) is ∙ drop-length lets)) ∙ p.rest) q.gives;
+        kept = subst (λ env. Keeps before env) (sym q.kept) p.keeps;
+      }
+
+-- names that a block put in scope are taken off
+pub taken_off : {A : Type 0} {r : Result A Stop} {means : Env → ℕ → Out A} {before after last : Env} {turns left : ℕ} → EvaluatesWithin r means before after turns left → (n : ℕ) → n ≡ length before
+    → last ≡ take n after → Evaluates r means before last turns left
+taken_off {after = after} p n is taken = record { gives = p.gives; kept = taken ∙ ap (λ n. take n after) is ∙ p.kept }

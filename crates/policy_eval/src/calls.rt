@@ -24,9 +24,12 @@ fn entrance<'a>(
 ) -> Answer<&'a [Stmt]>
     ensures { Enters result known.now name.now values env.new turns.old turns.new }
 {
-    let Some(Item::Function {
+    let Some(item) = known.item_named(name) else {
+        return Err(Stop::Stuck);
+    };
+    let Item::Function {
         parameters, body, ..
-    }) = known.item_named(name)
+    } = item
     else {
         return Err(Stop::Stuck);
     };

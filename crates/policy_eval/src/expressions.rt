@@ -35,7 +35,8 @@ pub fn value_of<'a, F: FactBase>(
     match e {
         Expr::Or(a, b) => {
             let first = value_of(alloc, known, facts, setting, depth, env, turns, a.get());
-            if truth_of(first)? {
+            let test = truth_of(first)?;
+            if test {
                 Ok(Value::Bool(true))
             } else {
                 value_of(alloc, known, facts, setting, depth, env, turns, b.get())
@@ -43,7 +44,8 @@ pub fn value_of<'a, F: FactBase>(
         }
         Expr::And(a, b) => {
             let first = value_of(alloc, known, facts, setting, depth, env, turns, a.get());
-            if truth_of(first)? {
+            let test = truth_of(first)?;
+            if test {
                 value_of(alloc, known, facts, setting, depth, env, turns, b.get())
             } else {
                 Ok(Value::Bool(false))
@@ -105,7 +107,8 @@ pub fn value_of<'a, F: FactBase>(
         Expr::If(x) => {
             let x = x.get();
             let head = value_of(alloc, known, facts, setting, depth, env, turns, &x.head);
-            if truth_of(head)? {
+            let test = truth_of(head)?;
+            if test {
                 block_value(alloc, known, facts, setting, depth, env, turns, &x.then)
             } else {
                 else_value(alloc, known, facts, setting, depth, env, turns, &x.otherwise)

@@ -75,9 +75,10 @@ pub fn block_end<'a>(env: &mut Env<'a>, outside: usize, flow: Answer<Flow<'a>>) 
     ensures { (does : (List FinishStmt → Listing) → Run) (before : Env) (turns left : ℕ) → outside ≡ length before → Runs flow does before env.old turns left
         → Runs result (λ lists. within (does lists)) before env.new turns left }
 {
-    if goes(&flow) {
-        env.truncate(outside);
+    if !goes(&flow) {
+        return flow;
     }
+    env.truncate(outside);
     flow
 }
 

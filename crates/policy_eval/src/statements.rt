@@ -36,7 +36,8 @@ pub fn run<'a, F: FactBase>(
         )),
         Stmt::If(x) => {
             let head = value_of(alloc, known, facts, setting, depth, env, turns, &x.head);
-            if truth_of(head)? {
+            let test = truth_of(head)?;
+            if test {
                 let outside = env.len();
                 let flow = run_all(
                     alloc,

@@ -37,7 +37,7 @@ abbrev pub pattern_room : Pattern ℕ → ℕ
 pattern_room p = frees_room p.keys + frees_room (value_part p.values) + 2
 
 abbrev pub block_room : ExprBlock ℕ → ℕ
-block_room b = total (λ l. l.value) b.lets + b.value + 1
+block_room b = total (λ l. l.value) b.lets + b.value + 2
 
 abbrev pub else_room : ElseExpr ℕ → ℕ
 else_room (else_expr.Block b) = block_room b
@@ -60,10 +60,10 @@ room_layer below (Expr-F.ForeignCall of called arguments) = 1
 room_layer below (Expr-F.Call called arguments) = total of_number arguments + below + 2
 room_layer below (Expr-F.Struct name binds) = total (λ b. b.value) binds + 2
 room_layer below (Expr-F.Arithmetic op a b) = a + b + 1
-room_layer below (Expr-F.Query p) = pattern_room p
-room_layer below (Expr-F.Exists p) = pattern_room p
-room_layer below (Expr-F.Count op n p) = pattern_room p
-room_layer below (Expr-F.If x) = x.head + block_room x.then + else_room x.otherwise + 1
+room_layer below (Expr-F.Query p) = pattern_room p + 1
+room_layer below (Expr-F.Exists p) = pattern_room p + 1
+room_layer below (Expr-F.Count op n p) = pattern_room p + 1
+room_layer below (Expr-F.If x) = x.head + block_room x.then + else_room x.otherwise + 2
 
 abbrev pub else_stmt_room : Option (Else ℕ) → ℕ
 else_stmt_room None = 0

@@ -1,0 +1,64 @@
+-- What the small steps of statements and of calls come to.
+use Rattle.std.proofs.Common.{◌≡◌, ℕ, zero, suc, ◌+◌, ◌-◌, ◌<◌, ◌≤◌, Bool, true, false, if◌then◌else◌, List, [], ◌∷◌, find, length, Option, Some, None, Result, Ok, Err, refl, sym, ap, subst, ◌∙◌, arith}
+use Rattle.base_bytes.specs.declared.value.Value.{Value}
+use Rattle.fact_store.specs.declared.row.Row.{Row}
+use Rattle.policy_ast.specs.declared.item.Item.{Item}
+use Rattle.policy_ast.specs.declared.statement.Arm.{Arm}
+use Rattle.policy_ast.specs.declared.statement.Stmt.{Stmt}
+use Rattle.policy_eval.specs.working.Rooms.{IsAmongArms, IsBodyOf, arm_room, item_room, stmt_room, total}
+use Rattle.policy_expressions.specs.Forms.{check_of}
+use Rattle.policy_meaning.specs.Arms.{first_body, takes}
+use Rattle.policy_meaning.specs.Environments.{Env, no_setting}
+use Rattle.policy_meaning.specs.Expressions.{meaning}
+use Rattle.policy_meaning.specs.Functions.{called, entered, no_listing}
+use Rattle.policy_meaning.specs.Outcomes.{Check, Out, Done, Ends, ◌>>=◌, branch}
+use Rattle.policy_meaning.specs.Statements.{Goes, Ran, body_run, checked, ran}
+use Rattle.policy_meaning.specs.Values.{truth}
+use Rattle.policy_rules.specs.Names.{Name, item_named}
+
+-- a name is put in scope, and the next statement runs
+pub names_go : (out : Out Value) (f : Value → Env) → (out >>= λ v n. ran Goes (f v) n) ≡ ((out >>= λ v n. Done (f v) n) >>= λ env n. ran Goes env n)
+names_go (Done v n) f = refl
+names_go (Ends halt) f = refl
+
+-- a check is passed, and the next statement runs
+pub checks_go : (out : Out Value) (env : Env) → (out >>= λ v n. checked (truth v) env n) ≡ (check_of out >>= λ u n. ran Goes env n)
+checks_go (Ends halt) env = refl
+checks_go (Done v n) env = by (truth v)
+  where
+    by : (o : Option Bool) → checked o env n ≡ (branch o (Done tt) (λ n. Ends (Check None)) n >>= λ u n. ran Goes env n)
+    by (Some true) = refl
+    by (Some false) = refl
+    by None = refl
+
+-- an arm that is taken is among all arms
+pub arm_among : (items : List Item) (v : Value) (arms : List (Arm Stmt)) (body : List Stmt) → first_body items v arms ≡ Some body → IsAmongArms body arms
+arm_among items v [] body is below = absurd cc
+arm_among items v (a ∷ arms) body is below = by (takes items v a.pattern) is
+  where
+    by : (b : Bool) → (if b then Some a.body else first_body items v arms) ≡ Some body → total (stmt_room below) body ≤ total (arm_room below) (a ∷ arms)
+    by true is =
+        let same : total (stmt_room below) a.body ≡ total (stmt_room below) body = ap (total (stmt_room below)) cc in
+        omega arith
+    by false is =
+        let later : total (stmt_room below) body ≤ total (arm_room below) arms = arm_among items v arms body is below in
+        omega arith
+
+-- an item that is found is among all items
+pub item_among : (f : Item → ℕ) (test : Item → Bool) (items : List Item) (i : Item) → find test items ≡ Some i → f i ≤ total f items
+item_among f test [] i is = absurd cc
+item_among f test (first ∷ items) i is = by (test first) is
+  where
+    by : (b : Bool) → (if b then Some first else find test items) ≡ Some i → f i ≤ f first + total f items
+    by true is =
+        let same : f first ≡ f i = ap f cc in
+        omega arith
+    by false is =
+        let later : f i ≤ total f items = item_among f test items i is in
+        omega arith
+
+-- a call at a depth above 0 enters its function
+pub deeper_call : (items : List Item) (rows : List Row) (depth : ℕ) (name : Name) (values : List Value) (turns : ℕ) → 0 < depth
+    → called items rows depth name values turns ≡ entered (body_run items (meaning items rows no_setting (called items rows (depth - 1))) no_listing) values (item_named items name) turns
+deeper_call items rows zero name values turns lt = absurd (omega arith)
+deeper_call items rows (suc depth) name values turns lt = refl
