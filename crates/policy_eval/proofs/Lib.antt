@@ -1,11 +1,11 @@
 -- Lemmas of this crate.
-mod Evaluating
-mod Loops
-mod MeaningForms
-mod StatementForms
-mod RoomForms
-mod Running
-mod Flows
+pub mod Evaluating
+pub mod Loops
+pub mod MeaningForms
+pub mod StatementForms
+pub mod RoomForms
+pub mod Running
+pub mod Flows
 mod ActingFacts
 mod DeedForms
 mod ActForms
