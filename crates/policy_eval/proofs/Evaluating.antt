@@ -1,14 +1,13 @@
 -- What an evaluation gives, by what was found of its parts one after the other.
-use Rattle.std.proofs.Common.{◌≡◌, ℕ, Bool, true, false, Option, Some, None, Result, Ok, Err, refl, sym, ap, subst, ◌∙◌}
+use Rattle.std.proofs.Common.{◌≡◌, ℕ, Bool, if◌then◌else◌, Option, Some, None, Result, Ok, Err, refl, sym, ap, subst, ◌∙◌}
 use Rattle.base_bytes.specs.declared.value.Value.{Value}
-use Rattle.policy_eval.specs.working.Endings.{Evaluates, EvaluatesWithin}
+use Rattle.policy_eval.specs.working.Endings.{Evaluates}
 use Rattle.policy_expressions.specs.Answers.{Gives, Stops}
-use Rattle.policy_expressions.specs.Forms.{truth_of}
+use Rattle.policy_expressions.specs.Forms.{chosen, truth_of}
 use Rattle.policy_expressions.specs.declared.stop.Stop.{Stop}
 use Rattle.policy_expressions.specs.declared.stop.Stop.TheVariants as stop
 use Rattle.policy_meaning.specs.Environments.{Env}
-use Rattle.policy_meaning.specs.Outcomes.{Out, Done, Ends, Halt, Stuck, ◌>>=◌, branch, or_stuck}
-use Rattle.policy_meaning.specs.Values.{truth}
+use Rattle.policy_meaning.specs.Outcomes.{Out, Done, Ends, Halt, Stuck, ◌>>=◌, or_stuck}
 
 -- ---- early ends
 
@@ -95,31 +94,28 @@ module _ {A : Type 0} (means : Env → ℕ → Out A) (before : Env) (turns : �
   -- ---- a test, and what it decides
 
   module _ {found : Result Value Stop} {one : Env → ℕ → Out Value} {middle : Env} {between : ℕ} (first second : ℕ → Out A)
-      (is : means before turns ≡ (one before turns >>= λ v turns. branch (truth v) first second turns)) (p : Evaluates found one before middle turns between) where
+      (is : means before turns ≡ chosen (truth_of (one before turns)) first second) (p : Evaluates found one before middle turns between) where
     pub test_stops : (why : Stop) → ((n : ℕ) (out : Out Value) → Gives found n out → Gives {A = Bool} (Err why) n (truth_of out)) → Evaluates (Err why) means before middle turns between
     test_stops why tested =
         record {
-          gives = stops_by why is (looked_stops why (one before turns) truth (λ v turns. branch (truth v) first second turns) (λ v n none. ap (λ o. branch o first second n) none) (tested between (one before turns) p.gives));
+          gives = stops_by why is (stops_then why (truth_of (one before turns)) (λ b n. if b then first n else second n) (tested between (one before turns) p.gives));
           kept = p.kept;
         }
 
-    chosen : (b d : Bool) → b ≡ d → ((n : ℕ) (out : Out Value) → Gives found n out → Gives (Ok b) n (truth_of out)) → means before turns ≡ branch (Some d) first second between
-    chosen b d same tested =
-        is ∙ looked_up b between (one before turns) truth (λ v turns. branch (truth v) first second turns) (branch (Some b) first second) (λ v n some. ap (λ o. branch o first second n) some)
-        (tested between (one before turns) p.gives)
-        ∙ ap (λ b. branch (Some b) first second between) same
+    decides : (b d : Bool) → b ≡ d → ((n : ℕ) (out : Out Value) → Gives found n out → Gives (Ok b) n (truth_of out)) → means before turns ≡ chosen (Done d between) first second
+    decides b d same tested = is ∙ ap (λ (out : Out Bool). chosen out first second) (tested between (one before turns) p.gives ∙ ap (λ b. Done b between) same)
 
     -- the test alone decides
-    pub test_ends : (b d : Bool) (x : A) → b ≡ d → ((n : ℕ) (out : Out Value) → Gives found n out → Gives (Ok b) n (truth_of out)) → ((n : ℕ) → branch (Some d) first second n ≡ Done x n)
+    pub test_ends : (b d : Bool) (x : A) → b ≡ d → ((n : ℕ) (out : Out Value) → Gives found n out → Gives (Ok b) n (truth_of out)) → ((n : ℕ) → chosen (Done d n) first second ≡ Done x n)
         → Evaluates (Ok x) means before middle turns between
-    test_ends b d x same tested ends = record { gives = chosen b d same tested ∙ ends between; kept = p.kept }
+    test_ends b d x same tested ends = record { gives = decides b d same tested ∙ ends between; kept = p.kept }
 
     -- the side that it chooses decides
     pub test_goes : {r : Result A Stop} {two : Env → ℕ → Out A} {after : Env} {left : ℕ} (b d : Bool) → b ≡ d
-        → ((n : ℕ) (out : Out Value) → Gives found n out → Gives (Ok b) n (truth_of out)) → ((n : ℕ) → branch (Some d) first second n ≡ two before n)
+        → ((n : ℕ) (out : Out Value) → Gives found n out → Gives (Ok b) n (truth_of out)) → ((n : ℕ) → chosen (Done d n) first second ≡ two before n)
         → Evaluates r two middle after between left → Evaluates r means before after turns left
     test_goes {r = r} {two = two} {left = left} b d same tested goes q =
         record {
-          gives = subst (λ o. Gives r left o) (sym (chosen b d same tested ∙ goes between)) (subst (λ env. Gives r left (two env between)) p.kept q.gives);
+          gives = subst (λ o. Gives r left o) (sym (decides b d same tested ∙ goes between)) (subst (λ env. Gives r left (two env between)) p.kept q.gives);
           kept = q.kept ∙ p.kept;
         }

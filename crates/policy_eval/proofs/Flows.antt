@@ -6,30 +6,19 @@ use Rattle.policy_ast.specs.declared.item.Item.{Item}
 use Rattle.policy_ast.specs.declared.statement.Arm.{Arm}
 use Rattle.policy_ast.specs.declared.statement.Stmt.{Stmt}
 use Rattle.policy_eval.specs.working.Rooms.{IsAmongArms, IsBodyOf, arm_room, item_room, stmt_room, total}
-use Rattle.policy_expressions.specs.Forms.{check_of}
 use Rattle.policy_meaning.specs.Arms.{first_body, takes}
 use Rattle.policy_meaning.specs.Environments.{Env, no_setting}
-use Rattle.policy_meaning.specs.Expressions.{meaning}
+use Rattle.policy_expressions.proofs.FormMeanings.{call_in}
+use Rattle.policy_expressions.specs.Meant.{stmts_meant}
 use Rattle.policy_meaning.specs.Functions.{called, entered, no_listing}
-use Rattle.policy_meaning.specs.Outcomes.{Check, Out, Done, Ends, ◌>>=◌, branch}
-use Rattle.policy_meaning.specs.Statements.{Goes, Ran, body_run, checked, ran}
-use Rattle.policy_meaning.specs.Values.{truth}
+use Rattle.policy_meaning.specs.Outcomes.{Out, Done, Ends, ◌>>=◌}
+use Rattle.policy_meaning.specs.Statements.{Goes, Ran, ran}
 use Rattle.policy_rules.specs.Names.{Name, item_named}
 
 -- a name is put in scope, and the next statement runs
 pub names_go : (out : Out Value) (f : Value → Env) → (out >>= λ v n. ran Goes (f v) n) ≡ ((out >>= λ v n. Done (f v) n) >>= λ env n. ran Goes env n)
 names_go (Done v n) f = refl
 names_go (Ends halt) f = refl
-
--- a check is passed, and the next statement runs
-pub checks_go : (out : Out Value) (env : Env) → (out >>= λ v n. checked (truth v) env n) ≡ (check_of out >>= λ u n. ran Goes env n)
-checks_go (Ends halt) env = refl
-checks_go (Done v n) env = by (truth v)
-  where
-    by : (o : Option Bool) → checked o env n ≡ (branch o (Done tt) (λ n. Ends (Check None)) n >>= λ u n. ran Goes env n)
-    by (Some true) = refl
-    by (Some false) = refl
-    by None = refl
 
 -- an arm that is taken is among all arms
 pub arm_among : (items : List Item) (v : Value) (arms : List (Arm Stmt)) (body : List Stmt) → first_body items v arms ≡ Some body → IsAmongArms body arms
@@ -59,6 +48,6 @@ item_among f test (first ∷ items) i is = by (test first) is
 
 -- a call at a depth above 0 enters its function
 pub deeper_call : (items : List Item) (rows : List Row) (depth : ℕ) (name : Name) (values : List Value) (turns : ℕ) → 0 < depth
-    → called items rows depth name values turns ≡ entered (body_run items (meaning items rows no_setting (called items rows (depth - 1))) no_listing) values (item_named items name) turns
+    → called items rows depth name values turns ≡ entered (stmts_meant items rows no_setting (depth - 1) no_listing) values (item_named items name) turns
 deeper_call items rows zero name values turns lt = absurd (omega arith)
-deeper_call items rows (suc depth) name values turns lt = refl
+deeper_call items rows (suc depth) name values turns lt = call_in items rows depth name values turns

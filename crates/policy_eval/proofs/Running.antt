@@ -1,5 +1,5 @@
 -- What statements come to, by what was found of their parts one after the other.
-use Rattle.std.proofs.Common.{◌≡◌, ℕ, ◌+◌, ◌<◌, Bool, true, false, List, [], ◌∷◌, length, take, drop, get_or, Option, Some, None, Result, Ok, Err, refl, sym, ap, subst, ◌∙◌, arith}
+use Rattle.std.proofs.Common.{◌≡◌, ℕ, ◌+◌, ◌<◌, Bool, true, false, if◌then◌else◌, List, [], ◌∷◌, length, take, drop, get_or, Option, Some, None, Result, Ok, Err, refl, sym, ap, subst, ◌∙◌, arith}
 use Rattle.std.proofs.Math.Seq.{drop-length}
 use Rattle.base_bytes.specs.declared.value.Value.{Value}
 use Rattle.fact_store.specs.declared.row.Row.{Row}
@@ -10,18 +10,17 @@ use Rattle.policy_eval.proofs.Evaluating.{looked_stops, looked_up, stops_by, sto
 use Rattle.policy_eval.proofs.Loops.{keeps_all, keeps_both, keeps_same, left_at}
 use Rattle.policy_eval.specs.declared.flow.Flow.{Flow}
 use Rattle.policy_eval.specs.declared.flow.Flow.TheVariants as flow
-use Rattle.policy_eval.specs.working.Endings.{Comes, Evaluates, GivesBody, Runs, goes_on}
+use Rattle.policy_eval.specs.working.Endings.{Comes, Evaluates, Runs, goes_on}
 use Rattle.policy_expressions.specs.Answers.{Gives, Keeps, Stops}
-use Rattle.policy_expressions.specs.Forms.{truth_of}
+use Rattle.policy_expressions.specs.Forms.{chosen, truth_of}
 use Rattle.policy_expressions.specs.Meant.{arm_meant, stmt_meant, stmts_meant}
 use Rattle.policy_expressions.specs.declared.stop.Stop.{Stop}
 use Rattle.policy_expressions.specs.declared.stop.Stop.TheVariants as stop
 use Rattle.policy_meaning.specs.Arms.{first_body}
 use Rattle.policy_meaning.specs.Environments.{Env, Setting}
 use Rattle.policy_meaning.specs.Finish.{Change, Listing}
-use Rattle.policy_meaning.specs.Outcomes.{Out, Done, Ends, Stuck, ◌>>=◌, branch, or_stuck}
+use Rattle.policy_meaning.specs.Outcomes.{Out, Done, Ends, Stuck, ◌>>=◌, or_stuck}
 use Rattle.policy_meaning.specs.Statements.{Finishes, Goes, Ran, Returns, Run, ran, then, within}
-use Rattle.policy_meaning.specs.Values.{truth}
 
 abbrev pub Lists : Type 0
 Lists = List FinishStmt → Listing
@@ -101,29 +100,23 @@ module _ (does : Lists → Run) (before : Env) (turns : ℕ) where
   -- ---- a test, and what it decides
 
   module _ {found : Result Value Stop} {says : Env → ℕ → Out Value} {middle : Env} {between : ℕ} (first second : Lists → ℕ → Out Ran)
-      (is : (lists : Lists) → does lists before turns ≡ (says before turns >>= λ v n. branch (truth v) (first lists) (second lists) n)) (p : Evaluates found says before middle turns between) where
+      (is : (lists : Lists) → does lists before turns ≡ chosen (truth_of (says before turns)) (first lists) (second lists)) (p : Evaluates found says before middle turns between) where
     pub head_stops : (why : Stop) → ((n : ℕ) (out : Out Value) → Gives found n out → Gives {A = Bool} (Err why) n (truth_of out)) → Runs (Err why) does before middle turns between
     head_stops why tested =
         record {
-          comes =
-              λ lists.
-              stops_by why (is lists)
-              (looked_stops why (says before turns) truth (λ v n. branch (truth v) (first lists) (second lists) n) (λ v n none. ap (λ o. branch o (first lists) (second lists) n) none)
-              (tested between (says before turns) p.gives));
+          comes = λ lists.
+              stops_by why (is lists) (stops_then why (truth_of (says before turns)) (λ b n. if b then first lists n else second lists n) (tested between (says before turns) p.gives));
           kept = keeps_same before middle p.kept;
         }
 
     pub head_goes : {r : Result Flow Stop} {inner : Lists → Run} {after : Env} {left : ℕ} (b d : Bool) → b ≡ d
-        → ((n : ℕ) (out : Out Value) → Gives found n out → Gives (Ok b) n (truth_of out)) → ((lists : Lists) (n : ℕ) → branch (Some d) (first lists) (second lists) n ≡ inner lists before n) → Runs r inner middle after between left → Runs r does before after turns left
+        → ((n : ℕ) (out : Out Value) → Gives found n out → Gives (Ok b) n (truth_of out)) → ((lists : Lists) (n : ℕ) → chosen (Done d n) (first lists) (second lists) ≡ inner lists before n)
+        → Runs r inner middle after between left → Runs r does before after turns left
     head_goes {r = r} {inner = inner} {after = after} {left = left} b d same tested goes q =
         record {
-          comes =
-              λ lists.
+          comes = λ lists.
               comes_by r lists after left
-              (is lists
-              ∙ looked_up b between (says before turns) truth (λ v n. branch (truth v) (first lists) (second lists) n) (branch (Some b) (first lists) (second lists))
-              (λ v n some. ap (λ o. branch o (first lists) (second lists) n) some) (tested between (says before turns) p.gives)
-              ∙ ap (λ b. branch (Some b) (first lists) (second lists) between) same ∙ goes lists between)
+              (is lists ∙ ap (λ (out : Out Bool). chosen out (first lists) (second lists)) (tested between (says before turns) p.gives ∙ ap (λ b. Done b between) same) ∙ goes lists between)
               (subst (λ env. Comes r lists after left (inner lists env between)) p.kept (q.comes lists));
           kept = subst (λ env. Keeps env after) p.kept q.kept;
         }

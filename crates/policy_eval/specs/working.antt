@@ -1,6 +1,7 @@
 -- What the private calls are shown by, step by step.
 pub mod Endings
 pub mod Rooms
+pub mod Steps
 pub mod Deeds
 pub mod ActionRooms
 pub mod Acting

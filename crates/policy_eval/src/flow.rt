@@ -4,15 +4,14 @@ ghost use Rattle.std.specs.Prelude.{◌≡◌, ℕ, List, IfOk, length};
 ghost use Rattle.base_bytes.specs.declared.value.Value.{Value};
 ghost use Rattle.policy_ast.specs.declared.finish.FinishStmt.{FinishStmt};
 ghost use Rattle.policy_expressions.specs.Answers.{Gives, Keeps};
-ghost use Rattle.policy_meaning.specs.Arms.{first_body};
-ghost use Rattle.policy_meaning.specs.Environments.{Env, with_value};
+ghost use Rattle.policy_meaning.specs.Environments.{Env};
 ghost use Rattle.policy_meaning.specs.Finish.{Listing};
-ghost use Rattle.policy_meaning.specs.Functions.{no_listing, returned};
-ghost use Rattle.policy_meaning.specs.Outcomes.{Out, ◌>>=◌, or_stuck};
-ghost use Rattle.policy_meaning.specs.Statements.{Goes, Ran, Returns, Run, checked, ran, within};
-ghost use Rattle.policy_meaning.specs.Values.{truth};
+ghost use Rattle.policy_meaning.specs.Functions.{no_listing};
+ghost use Rattle.policy_meaning.specs.Outcomes.{Out};
+ghost use Rattle.policy_meaning.specs.Statements.{Ran, Run, within};
 ghost use Rattle.policy_eval.specs.working.Endings.{Comes, GivesBody, Runs, goes_on};
 ghost use Rattle.policy_eval.specs.working.Rooms.{IsAmongArms};
+ghost use Rattle.policy_eval.specs.working.Steps.{body_of, checked_of, let_of, return_of, value_returned};
 
 use base_bytes::Value;
 use policy_ast::{Arm, FinishStmt, Name, Stmt};
@@ -38,7 +37,7 @@ pub fn goes(flow: &Answer<Flow<'_>>) -> bool
 
 /// `let`: one more name in scope. Whatever the answer, the names that were there are still the first.
 pub fn let_flow<'a>(env: &mut Env<'a>, name: &'a Name, found: Answer<Value>) -> Answer<Flow<'a>>
-    ensures comes { (lists : List FinishStmt → Listing) (turns : ℕ) (out : Out Value) → Gives found turns out → Comes result lists env.new turns (out >>= λ v turns. ran Goes (with_value env.old name.now v) turns) }
+    ensures comes { (lists : List FinishStmt → Listing) (turns : ℕ) (out : Out Value) → Gives found turns out → Comes result lists env.new turns (let_of name.now env.old out) }
     ensures kept { Keeps env.old env.new }
 {
     let_in(env, name, found)?;
@@ -47,7 +46,7 @@ pub fn let_flow<'a>(env: &mut Env<'a>, name: &'a Name, found: Answer<Value>) -> 
 
 /// `check`: goes on where the value is true.
 pub fn check_flow<'a>(found: Answer<Value>) -> Answer<Flow<'a>>
-    ensures { (lists : List FinishStmt → Listing) (env : Env) (turns : ℕ) (out : Out Value) → Gives found turns out → Comes result lists env turns (out >>= λ v turns. checked (truth v) env turns) }
+    ensures { (lists : List FinishStmt → Listing) (env : Env) (turns : ℕ) (out : Out Value) → Gives found turns out → Comes result lists env turns (checked_of env out) }
 {
     check_of(found)?;
     Ok(Flow::Goes)
@@ -55,14 +54,14 @@ pub fn check_flow<'a>(found: Answer<Value>) -> Answer<Flow<'a>>
 
 /// `return`
 pub fn return_flow<'a>(found: Answer<Value>) -> Answer<Flow<'a>>
-    ensures { (lists : List FinishStmt → Listing) (env behind : Env) (turns : ℕ) (out : Out Value) → Gives found turns out → Comes result lists env turns (out >>= λ v turns. ran (Returns v) behind turns) }
+    ensures { (lists : List FinishStmt → Listing) (env behind : Env) (turns : ℕ) (out : Out Value) → Gives found turns out → Comes result lists env turns (return_of behind out) }
 {
     Ok(Flow::Returns(found?))
 }
 
 /// The value that the statements of a function return. No `finish` stands in them.
 pub fn returned(flow: Answer<Flow<'_>>) -> Answer<Value>
-    ensures { (env : Env) (turns : ℕ) (out : Out Ran) → Comes flow no_listing env turns out → Gives result turns (out >>= λ r turns. returned r.flow turns) }
+    ensures { (env : Env) (turns : ℕ) (out : Out Ran) → Comes flow no_listing env turns out → Gives result turns (value_returned out) }
 {
     match flow? {
         Flow::Returns(value) => Ok(value),
@@ -84,7 +83,7 @@ pub fn block_end<'a>(env: &mut Env<'a>, outside: usize, flow: Answer<Flow<'a>>) 
 
 /// The body of the first arm that takes the value.
 pub fn body_taken<'a>(known: &Known<'_>, arms: &'a [Arm<Stmt>], found: Answer<Value>) -> Answer<&'a [Stmt]>
-    ensures gives { (turns : ℕ) (out : Out Value) → Gives found turns out → GivesBody result turns (out >>= λ v turns. or_stuck (first_body known.now v arms.now) turns) }
+    ensures gives { (turns : ℕ) (out : Out Value) → Gives found turns out → GivesBody result turns (body_of known.now arms.now out) }
     ensures among { IfOk result (λ body. IsAmongArms body.now arms.now) }
 {
     let value = found?;

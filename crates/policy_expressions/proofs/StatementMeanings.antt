@@ -16,7 +16,7 @@ use Rattle.policy_ast.specs.declared.statement.Stmt.{Stmt}
 use Rattle.policy_ast.specs.declared.statement.Stmt.TheOpen.{Stmt-F}
 use Rattle.policy_ast.specs.declared.statement.Stmt.TheVariants as stmt
 use Rattle.policy_expressions.proofs.FormMeanings.{branch_chosen}
-use Rattle.policy_expressions.specs.Forms.{check_of, chosen, truth_of}
+use Rattle.policy_expressions.specs.Forms.{check_of, chosen, passed, truth_of}
 use Rattle.policy_expressions.specs.Meant.{arm_meant, else_stmt_meant, meant, stmt_meant, stmts_meant}
 use Rattle.policy_meaning.specs.Arms.{first_body, takes}
 use Rattle.policy_meaning.specs.Environments.{Env, Setting, with_value}
@@ -35,7 +35,7 @@ pub checks : (out : Out Value) (env : Env) → (out >>= λ v turns. checked (tru
 checks (Ends halt) env = refl
 checks (Done v turns) env = by (truth v)
   where
-    by : (o : Option Bool) → checked o env turns ≡ (branch o (Done tt) (λ turns. Ends (Check None)) turns >>= λ done turns. ran Goes env turns)
+    by : (o : Option Bool) → checked o env turns ≡ (passed o turns >>= λ done turns. ran Goes env turns)
     by None = refl
     by (Some true) = refl
     by (Some false) = refl
@@ -44,11 +44,12 @@ module _ {A B : Type 0} (f : A → B) (items : List Item) (v : Value) where
   -- the first arm that takes a value, behind a map
   pub first_mapped : (arms : List (Arm A)) → first_body items v (map (map_arm f) arms) ≡ option_map (map f) (first_body items v arms)
   first_mapped [] = refl
-  first_mapped (a ∷ arms) = by (takes items v a.pattern)
+  first_mapped (a ∷ arms) = by (takes items v a.pattern) (first_mapped arms)
     where
-      by : (b : Bool) → (if b then Some (map f a.body) else first_body items v (map (map_arm f) arms)) ≡ option_map (map f) (if b then Some a.body else first_body items v arms)
-      by true = refl
-      by false = first_mapped arms
+      by : (b : Bool) → first_body items v (map (map_arm f) arms) ≡ option_map (map f) (first_body items v arms)
+          → (if b then Some (map f a.body) else first_body items v (map (map_arm f) arms)) ≡ option_map (map f) (if b then Some a.body else first_body items v arms)
+      by true more = refl
+      by false more = more
 
 module _ (items : List Item) (rows : List Row) (setting : Setting) (depth : ℕ) (lists : List FinishStmt → Listing) where
   abbrev says : Expr → Meaning

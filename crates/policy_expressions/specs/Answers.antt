@@ -1,6 +1,7 @@
 -- What a call of an evaluator answers, held against how the evaluation ends.
-use Rattle.std.specs.Prelude.{◌≡◌, ℕ, List, length, take, Result, Ok, Err, None, ⊤}
-use Rattle.policy_meaning.specs.Outcomes.{Check, Ends, Fault, Done, Out, Stuck, with_turn}
+use Rattle.std.specs.Prelude.{◌≡◌, ℕ, ◌+◌, List, length, take, Result, Ok, Err, None, ⊤}
+use Rattle.policy_meaning.specs.Outcomes.{Check, Ends, Fault, Done, Out, Stuck}
+use Rattle.policy_meaning.specs.declared.ends.FaultKind.TheVariants as fault
 use Rattle.policy_expressions.specs.declared.stop.Stop.{Stop}
 use Rattle.policy_expressions.specs.declared.stop.Stop.TheVariants as stop
 
@@ -21,10 +22,10 @@ abbrev pub Leaves : {A B : Type 0} → Result B Stop → A → ℕ → Out A →
 Leaves (Ok done) left turns out = out ≡ Done left turns
 Leaves (Err why) left turns out = Stops why out
 
--- What follows had its turn, or there was none.
-abbrev pub TakesTurn : {A B : Type 0} → Result B Stop → ℕ → ℕ → (ℕ → Out A) → Type 0
-TakesTurn (Ok done) before after next = with_turn next before ≡ next after
-TakesTurn (Err why) before after next = Stops why (with_turn next before)
+-- One turn was taken, or none was left.
+abbrev pub TakesTurn : {A : Type 0} → Result A Stop → ℕ → ℕ → Type 0
+TakesTurn (Ok done) before after = before ≡ after + 1
+TakesTurn (Err why) before after = (before ≡ 0) × (why ≡ stop.Fault fault.Turns)
 
 -- A list begins with another, as it was lent.
 abbrev pub Keeps : {A : Type 0} → List A → List A → Type 0

@@ -1,5 +1,5 @@
 -- What each form makes of the values of its parts, where the last of them may have ended early.
-use Rattle.std.specs.Prelude.{ℕ, ℤ, Bool, if◌then◌else◌, List, Option, None, option_map}
+use Rattle.std.specs.Prelude.{ℕ, ℤ, Bool, if◌then◌else◌, List, [], ◌∷◌, ◌++◌, Option, Some, None, option_map}
 use Rattle.std.specs.Option.{is_some}
 use Rattle.base_bytes.specs.declared.value.Value.{Value}
 use Rattle.base_bytes.specs.declared.value.Value.TheVariants as value
@@ -13,7 +13,7 @@ use Rattle.policy_ast.specs.declared.expr.Presence.{Presence}
 use Rattle.policy_ast.specs.declared.expr.Unary.{Unary}
 use Rattle.policy_ast.specs.declared.item.Item.{Item}
 use Rattle.policy_ast.specs.declared.pattern.Pattern.{Pattern}
-use Rattle.policy_meaning.specs.Environments.{bound}
+use Rattle.policy_meaning.specs.Environments.{Env, bound, with_value}
 use Rattle.policy_meaning.specs.Expressions.{decided, struct_value}
 use Rattle.policy_meaning.specs.Finish.{Change, create_of, delete_of, emit_of, update_of}
 use Rattle.policy_meaning.specs.Outcomes.{Check, Done, Ends, Out, ◌>>=◌, branch, or_stuck}
@@ -31,8 +31,11 @@ abbrev pub chosen : {A : Type 0} → Out Bool → (ℕ → Out A) → (ℕ → O
 chosen out first second = out >>= λ b turns. if b then first turns else second turns
 
 -- A check that fails ends the evaluation.
+abbrev pub passed : Option Bool → ℕ → Out (Unit {0})
+passed test turns = branch test (Done tt) (λ turns. Ends (Check None)) turns
+
 abbrev pub check_of : Out Value → Out (Unit {0})
-check_of out = out >>= λ v turns. branch (truth v) (Done tt) (λ turns. Ends (Check None)) turns
+check_of out = out >>= λ v turns. passed (truth v) turns
 
 abbrev pub presence_of : Presence → Out Value → Out Value
 presence_of op out = out >>= λ v turns. or_stuck (presence_value op v) turns
@@ -71,6 +74,20 @@ exists_of rows out = out >>= λ w turns. decided (is_some (first_row w rows)) tu
 
 abbrev pub count_of : List Row → Count → ℤ → Out Wanted → Out Value
 count_of rows op n out = out >>= λ w turns. or_stuck (option_map (λ limit. counted op limit (row_count w rows)) (limit_of n)) turns
+
+-- ---- lists that grow
+
+-- A list with one more element.
+abbrev pub one_more : {A : Type 0} → List A → Out A → Out (List A)
+one_more before out = out >>= λ x turns. Done (before ++ x ∷ []) turns
+
+-- The values of a pattern with one more.
+abbrev pub one_given : List (Option Value) → Out Value → Out (List (Option Value))
+one_given before out = out >>= λ v turns. Done (before ++ Some v ∷ []) turns
+
+-- Names with one more.
+abbrev pub one_named : Env → Name → Out Value → Out Env
+one_named before name out = out >>= λ v turns. Done (with_value before name v) turns
 
 -- ---- changes
 

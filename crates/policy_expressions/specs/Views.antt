@@ -1,10 +1,7 @@
 -- How contracts see what an evaluator keeps by reference.
-use Rattle.std.specs.Prelude.{List, Option, option_map}
-use Rattle.std.specs.Borrow.{Bor}
+use Rattle.std.specs.Prelude.{List, map}
 use Rattle.base_bytes.specs.declared.value.Value.{Value}
 use Rattle.base_bytes.specs.declared.value.Value.TheVariants as value
-use Rattle.fact_store.specs.declared.row.Row.{Row}
-use Rattle.policy_ast.specs.declared.item.Item.{Item}
 use Rattle.policy_meaning.specs.Environments.{Bound, Env}
 use Rattle.policy_expressions.specs.declared.env.Binding.{Binding}
 use Rattle.policy_expressions.specs.declared.setting.This.{This}

@@ -3,7 +3,7 @@
 ghost use Rattle.std.specs.Prelude.{◌≡◌};
 ghost use Rattle.std.specs.List.{list_any};
 ghost use Rattle.std.specs.Option.{option_copied};
-ghost use Rattle.base_bytes.specs.declared.value.Value.TheVariants as value;
+ghost use Rattle.base_bytes.specs.declared.value.Value.TheVariants as written;
 ghost use Rattle.fact_store.specs.Sameness.{same_value};
 ghost use Rattle.policy_meaning.specs.Arms.{first_body, is_value, listed_value, takes};
 ghost use Rattle.policy_meaning.specs.Environments.{literal_value};
@@ -15,7 +15,7 @@ use base_bytes::{Text, Value};
 use policy_ast::{Arm, ArmPattern, Literal, PatternLiteral, Stmt};
 
 fn is_number(value: &Value, number: i64) -> bool
-    ensures { result ≡ same_value (value.Int number) value.now }
+    ensures { result ≡ same_value (written.Int number) value.now }
 {
     match value {
         Value::Int(own) => *own == number,
@@ -24,7 +24,7 @@ fn is_number(value: &Value, number: i64) -> bool
 }
 
 fn is_text(value: &Value, text: &Text) -> bool
-    ensures { result ≡ same_value (value.Str text.now) value.now }
+    ensures { result ≡ same_value (written.Str text.now) value.now }
 {
     match value {
         Value::Str(own) => own == text,
@@ -33,7 +33,7 @@ fn is_text(value: &Value, text: &Text) -> bool
 }
 
 fn is_truth(value: &Value, truth: bool) -> bool
-    ensures { result ≡ same_value (value.Bool truth) value.now }
+    ensures { result ≡ same_value (written.Bool truth) value.now }
 {
     match value {
         Value::Bool(own) => *own == truth,
@@ -42,7 +42,7 @@ fn is_truth(value: &Value, truth: bool) -> bool
 }
 
 fn is_nothing(value: &Value) -> bool
-    ensures { result ≡ same_value value.Nothing value.now }
+    ensures { result ≡ same_value written.Nothing value.now }
 {
     matches!(value, Value::Nothing)
 }

@@ -1,6 +1,7 @@
 ghost use Rattle.std.specs.Prelude.{◌≡◌, [], ◌∷◌, ◌++◌, IsTrue, OnErr, OnOk};
 ghost use Rattle.fact_store.specs.Rows.{are_keys};
 ghost use Rattle.policy_meaning.specs.Finish.{Create, Delete, Emit, Update};
+ghost use Rattle.policy_expressions.specs.Changes.{HasKeys, meant};
 
 use base_bytes::{NoMemory, Values};
 use fact_store::{Row, Wanted};
@@ -24,10 +25,14 @@ pub struct Change {
 }
 
 impl Model for Change {
+    ghost use Rattle.std.specs.Coded.{codes};
+    ghost use Rattle.base_bytes.specs.contracts.value.Value as value_contract;
     ghost use Rattle.policy_meaning.specs.Finish.{Change as Meant};
     ghost use Rattle.policy_expressions.specs.Changes.{HasKeys, meant};
 
     ghost Value = { Meant };
+
+    ghost coded = { Prim.hlevel (codes, value_contract.the_row.coded) };
 
     ghost view = { λ c. meant c.listed };
 
@@ -87,9 +92,13 @@ pub struct Changes {
 
 impl Model for Changes {
     ghost use Rattle.std.specs.Prelude.{List};
+    ghost use Rattle.std.specs.Coded.{codes};
+    ghost use Rattle.base_bytes.specs.contracts.value.Value as value_contract;
     ghost use Rattle.policy_meaning.specs.Finish.{Change as Meant};
 
     ghost Value = { List Meant };
+
+    ghost coded = { Prim.hlevel (codes, value_contract.the_row.coded) };
 
     ghost view = { λ c. c.changes.items };
 }

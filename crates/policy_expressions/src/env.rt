@@ -26,10 +26,14 @@ pub struct Env<'a> {
 
 impl<'a> Model for Env<'a> {
     ghost use Rattle.std.specs.Prelude.{List};
+    ghost use Rattle.std.specs.Coded.{codes};
+    ghost use Rattle.base_bytes.specs.contracts.value.Value as value_contract;
     ghost use Rattle.policy_meaning.specs.Environments.{Bound};
     ghost use Rattle.policy_expressions.specs.Views.{env_of};
 
     ghost Value = { List Bound };
+
+    ghost coded = { Prim.hlevel (codes, value_contract.the_row.coded) };
 
     ghost view = { λ env. env_of env.bindings.items };
 }

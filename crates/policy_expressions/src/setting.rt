@@ -30,10 +30,14 @@ pub struct Setting<'a> {
 impl<'a> Model for Setting<'a> {
     ghost use Rattle.std.specs.Prelude.{option_map};
     ghost use Rattle.std.specs.Option.{option_copied};
+    ghost use Rattle.std.specs.Coded.{codes};
+    ghost use Rattle.base_bytes.specs.contracts.value.Value as value_contract;
     ghost use Rattle.policy_meaning.specs.Environments.{Setting as Known};
     ghost use Rattle.policy_expressions.specs.Views.{this_value};
 
     ghost Value = { Known };
+
+    ghost coded = { Prim.hlevel (codes, value_contract.the_row.coded) };
 
     ghost view = { λ s. record { this = option_map this_value s.this; author = option_copied s.author; command_id = option_copied s.command_id; device = option_copied s.device } };
 }

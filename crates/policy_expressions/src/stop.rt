@@ -1,7 +1,5 @@
 //! How an evaluation ends early, and the turns that it has left.
 
-ghost use Rattle.std.specs.Prelude.{ℕ};
-ghost use Rattle.policy_meaning.specs.Outcomes.{Out};
 ghost use Rattle.policy_expressions.specs.Answers.{TakesTurn};
 
 use base_bytes::NoMemory;
@@ -57,7 +55,7 @@ impl<T: Drop> From<AllocFailed<T>> for Stop {
 
 /// Takes one turn. Where none is left it is a fault, and none is taken.
 pub fn take_turn(turns: &mut u32) -> Answer<()>
-    ensures { {A : Type 0} (next : ℕ → Out A) → TakesTurn result turns.old turns.new next }
+    ensures { TakesTurn result turns.old turns.new }
 {
     if *turns == 0 {
         return Err(Stop::Fault(FaultKind::Turns));
