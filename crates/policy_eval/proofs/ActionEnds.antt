@@ -1,25 +1,35 @@
 -- How an action ends: what its calls tell is the meaning of the action with just those answers.
-use Rattle.std.proofs.Common.{◌≡◌, ℕ, List, [], ◌++◌, map, slice_get, Option, Some, None, Result, Ok, Err, refl, sym, ap, subst, ◌∙◌}
+use Rattle.std.proofs.Common.{◌≡◌, ℕ, List, [], ◌++◌, map, slice_get, Option, Some, None, option_and_then, Result, Ok, Err, refl, sym, ap, subst, ◌∙◌}
 use Rattle.std.proofs.lemmas.List.{append-nil}
+use Rattle.std.proofs.lemmas.Option.{same_Some}
 use Rattle.base_bytes.specs.declared.value.Value.{Value}
 use Rattle.fact_store.specs.declared.row.Row.{Row}
+use Rattle.policy_ast.specs.declared.field.Field.{Field}
+use Rattle.policy_ast.specs.declared.item.Item.{Item}
+use Rattle.policy_ast.specs.declared.item.Item.TheVariants as item
 use Rattle.policy_ast.specs.declared.policy.PlacedItem.{PlacedItem}
+use Rattle.policy_ast.specs.declared.statement.Stmt.{Stmt}
 use Rattle.policy_expressions.specs.declared.stop.Stop.TheVariants as stop
-use Rattle.policy_meaning.specs.Actions.{Answer, Brought, Deed, Did, Stops, Stop, Halts, IsRefused, World, ◌>>>◌, acted, action_deed, deed_end, stop_end, with_turns, world_of}
+use Rattle.policy_meaning.specs.Actions.{Answer, Brought, Deed, Did, Stops, Stop, Halts, IsRefused, World, ◌>>>◌, acted, action_deed, deed_end, action_setting, inside, stop_end, with_turns, world_of}
 use Rattle.policy_meaning.specs.Blocks.{most_turns}
 use Rattle.policy_meaning.specs.Desks.{ActionRun, Acts as IsRun, Posting, answer, brought}
-use Rattle.policy_meaning.specs.Environments.{Env}
+use Rattle.policy_meaning.specs.Environments.{Env, bound_parameters}
 use Rattle.policy_meaning.specs.Outcomes.{Check, Fault, Stuck}
 use Rattle.policy_meaning.specs.Typed.{AreTyped}
 use Rattle.policy_meaning.specs.declared.ends.ActionEnd.{ActionEnd}
 use Rattle.policy_meaning.specs.declared.ends.ActionEnd.TheVariants as end
+use Rattle.policy_rules.specs.Names.{Name}
+use Rattle.policy_rules.specs.Types.{declared}
 use Rattle.policy_rules.specs.WellTyped.{items_of}
 use Rattle.policy_types.specs.ActsWell.{ActsWell, LeaveTyped}
 use Rattle.policy_types.specs.NeverStuck.{ActionsGoWell}
+use Rattle.policy_eval.proofs.ActForms.{inside_told}
+use Rattle.policy_eval.proofs.ActingFacts.{acted_on, acted_still, goes_from, goes_into}
+use Rattle.policy_eval.proofs.DeedForms.{deeds_same}
 use Rattle.policy_eval.specs.declared.cause.Cause.{Cause}
 use Rattle.policy_eval.specs.declared.cause.Cause.TheVariants as cause
-use Rattle.policy_eval.specs.working.Acting.{Acted, Acts, GoesWell, Standing, StopsFor, StopsWell, reason, settled, standing, world}
-use Rattle.policy_eval.specs.working.Deeds.{finished, whole}
+use Rattle.policy_eval.specs.working.Acting.{Acted, Acts, ActsAtLast, GoesWell, Standing, StopsFor, StopsWell, ended_by, reason, settled, standing, world}
+use Rattle.policy_eval.specs.working.Deeds.{deeds, finished, whole}
 
 -- ---- what is left of an action
 
@@ -89,3 +99,79 @@ module _ {D : Type 0} (publishes : D → List Row → Posting → D → Type 0) 
 
   pub whole_goes : (rows : List Row) → ActionsGoWell policy action arguments device rows → GoesWell policy (whole (items_of policy) device arguments (slice_get (items_of policy) action)) rows most_turns
   whole_goes rows well = record { made = []; stops = λ left are. stops_of (run rows left) (well.acts left are) }
+
+  -- ---- the whole action
+
+  module _ (known : List Item) (same : items_of policy ≡ known) (rows : List Row) (old new : D) (before now : ℕ) (last : List Row) (result : Result (Unit {0}) Cause) where
+    abbrev Last : Type 0
+    Last = ActsAtLast publishes policy result (whole known device arguments (slice_get (items_of policy) action)) old rows most_turns before new last now
+
+    pub action_run : (how : ActionEnd) → Last → ended_by result ≡ Some how → ActionRun publishes policy action arguments device old rows how before now new last
+    action_run how acts ends = by result (subst (λ known. ActsAtLast publishes policy result (whole known device arguments (slice_get (items_of policy) action)) old rows most_turns before new last now) (sym same) acts) ends
+      where
+        of : (why : Option Stop) (left : ℕ) → StopsFor publishes policy why (whole (items_of policy) device arguments (slice_get (items_of policy) action)) (standing old rows most_turns before) (standing new last left now)
+            → option_and_then stop_end why ≡ Some how → ActionRun publishes policy action arguments device old rows how before now new last
+        of None left acts ends = absurd (cc)
+        of (Some why) left acts ends = action_stops rows old new before now left last why how ends acts
+
+        by : (result : Result (Unit {0}) Cause) → ActsAtLast publishes policy result (whole (items_of policy) device arguments (slice_get (items_of policy) action)) old rows most_turns before new last now
+            → ended_by result ≡ Some how → ActionRun publishes policy action arguments device old rows how before now new last
+        by (Ok done) acts ends = subst (λ how. ActionRun publishes policy action arguments device old rows how before now new last) (same_Some end.Done how ends) (action_done rows old new before now acts.left last acts.acts)
+        by (Err why) acts ends = of (reason why) acts.left acts.acts ends
+
+    pub action_typed : (end : ActionEnd) → Last → ended_by result ≡ Some end → AreTyped policy last
+    action_typed end acts ends = by result acts.acts ends
+      where
+        of : (why : Option Stop) → StopsFor publishes policy why (whole known device arguments (slice_get (items_of policy) action)) (standing old rows most_turns before) (standing new last acts.left now)
+            → option_and_then stop_end why ≡ Some end → AreTyped policy last
+        of None acts ends = absurd (cc)
+        of (Some why) acts ends = acts.typed
+
+        by : (result : Result (Unit {0}) Cause) → Acts publishes policy result tt (whole known device arguments (slice_get (items_of policy) action)) (standing old rows most_turns before) (standing new last acts.left now)
+            → ended_by result ≡ Some end → AreTyped policy last
+        by (Ok done) acts ends = acts.typed
+        by (Err why) acts ends = of (reason why) acts ends
+
+    -- no action of a well-typed policy is stuck
+    pub action_never_sticks : ActionsGoWell policy action arguments device rows → Last → result ≡ Err (cause.Stop stop.Stuck) → ⊥
+    action_never_sticks well acts is =
+        let stuck = subst (λ result. Acts publishes policy result tt (whole known device arguments (slice_get (items_of policy) action)) (standing old rows most_turns before) (standing new last acts.left now)) is acts.acts in
+        (goes_from publishes policy (whole known device arguments (slice_get (items_of policy) action)) (Stops (Halts Stuck)) (standing old rows most_turns before) (standing new last acts.left now)
+        (subst (λ known. GoesWell policy (whole known device arguments (slice_get (items_of policy) action)) rows most_turns) same (whole_goes rows well)) stuck).stops [] tt
+
+-- ---- the body of an action
+
+module _ {D : Type 0} (publishes : D → List Row → Posting → D → Type 0) (policy : List PlacedItem) (items : List Item) (device : List ℕ) (arguments : List Value) (rows : List Row) (typed : AreTyped policy rows)
+    (old new : D) (before now : ℕ) (last : List Row) where
+  module _ (name : Name) (parameters : List Field) (body : List Stmt) where
+    abbrev run_body : World → Deed Env
+    run_body w = inside (deeds items (action_setting device) body) (bound_parameters (declared parameters) arguments) w
+
+    whole_is : (w : World) → settled (whole items device arguments (Some (item.Action name parameters body)) w) ≡ settled (run_body w >>> finished)
+    whole_is w = ap (λ d. settled (d >>> finished)) (deeds_same items (action_setting device) body (bound_parameters (declared parameters) arguments) w)
+        ∙ ap settled (inside_told (deeds items (action_setting device) body (bound_parameters (declared parameters) arguments) w) (bound_parameters (declared parameters) arguments) (Did tt))
+
+    begun : Acted publishes policy (whole items device arguments (Some (item.Action name parameters body))) (λ w. run_body w >>> finished) (standing old rows most_turns before) (standing old rows most_turns before)
+    begun = acted_still publishes policy _ _ old rows most_turns most_turns before typed (λ left made. whole_is (world rows left made most_turns))
+
+    pub body_goes : GoesWell policy (whole items device arguments (Some (item.Action name parameters body))) rows most_turns → GoesWell policy run_body rows most_turns
+    body_goes goes = goes_into policy run_body finished rows most_turns (goes_from publishes policy _ _ (standing old rows most_turns before) (standing old rows most_turns before) goes begun)
+
+    pub body_on : (result : Result (Unit {0}) Cause) (after : Env) (left : ℕ) → Acts publishes policy result after run_body (standing old rows most_turns before) (standing new last left now)
+        → ActsAtLast publishes policy result (whole items device arguments (Some (item.Action name parameters body))) old rows most_turns before new last now
+    body_on result after left acts = record { left = left; acts = by result acts }
+      where
+        of : (why : Option Stop) → StopsFor publishes policy why run_body (standing old rows most_turns before) (standing new last left now)
+            → StopsFor publishes policy why (whole items device arguments (Some (item.Action name parameters body))) (standing old rows most_turns before) (standing new last left now)
+        of None acts = tt
+        of (Some why) acts = acted_on publishes policy _ run_body (Stops why) finished (standing old rows most_turns before) (standing old rows most_turns before) (standing new last left now) begun acts
+
+        by : (result : Result (Unit {0}) Cause) → Acts publishes policy result after run_body (standing old rows most_turns before) (standing new last left now)
+            → Acts publishes policy result tt (whole items device arguments (Some (item.Action name parameters body))) (standing old rows most_turns before) (standing new last left now)
+        by (Ok done) acts = acted_on publishes policy _ run_body (Did after) finished (standing old rows most_turns before) (standing old rows most_turns before) (standing new last left now) begun acts
+        by (Err why) acts = of (reason why) acts
+
+  -- there is no such action
+  pub no_action : (o : Option Item) → ((w : World) → action_deed items device arguments o w ≡ Stops (Halts Stuck) w)
+      → ActsAtLast publishes policy (Err (cause.Stop stop.Stuck)) (whole items device arguments o) old rows most_turns before old rows before
+  no_action o none = record { left = most_turns; acts = acted_still publishes policy _ _ old rows most_turns most_turns before typed (λ left made. ap (λ d. settled (d >>> finished)) (none (world rows left made most_turns))) }

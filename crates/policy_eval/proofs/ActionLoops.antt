@@ -26,10 +26,10 @@ use Rattle.policy_eval.specs.working.ActionSteps.{BlockSoFar, RowsSoFar}
 use Rattle.policy_eval.specs.working.Deeds.{deed, deeds}
 
 -- what is left of a list at a place
-left_at : {A : Type 0} (xs : List A) (i : ℕ) (x : A) → i < length xs → x ≡ get_or xs i x → drop i xs ≡ x ∷ drop (i + 1) xs
+pub left_at : {A : Type 0} (xs : List A) (i : ℕ) (x : A) → i < length xs → x ≡ get_or xs i x → drop i xs ≡ x ∷ drop (i + 1) xs
 left_at xs i x lt is = drop-cons xs i x lt ∙ ap (λ y. y ∷ drop (suc i) xs) (sym is) ∙ ap (λ n. x ∷ drop n xs) (sym (add-one i))
 
-past : {A : Type 0} (xs : List A) (i : ℕ) → length xs ≤ i → drop i xs ≡ []
+pub past : {A : Type 0} (xs : List A) (i : ℕ) → length xs ≤ i → drop i xs ≡ []
 past [] zero le = refl
 past [] (suc i) le = refl
 past (x ∷ xs) zero le = absurd (omega (arith, le))

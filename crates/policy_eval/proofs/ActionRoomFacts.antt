@@ -15,7 +15,7 @@ use Rattle.policy_meaning.specs.Arms.{first_body, takes}
 use Rattle.policy_rules.proofs.Folds.{fold-stmt-If, fold-stmt-Map, fold-stmt-Match}
 use Rattle.policy_rules.proofs.StatementMaps.{map_arm, map_else}
 use Rattle.policy_rules.specs.Names.{Name}
-use Rattle.policy_eval.specs.working.ActionRooms.{deed_layer, deed_room, deeds_room, else_deed_room, else_layer}
+use Rattle.policy_eval.specs.working.ActionRooms.{arms_room, deed_layer, deed_room, deeds_room, else_deed_room, else_layer}
 use Rattle.policy_eval.specs.working.Rooms.{of_number, total}
 
 total_map : {A : Type 0} (f : A → ℕ) (xs : List A) → total of_number (map f xs) ≡ total f xs
@@ -35,7 +35,7 @@ pub choice_room : (x : IfStmt Stmt) → deed_room (stmt.If x) ≡ deeds_room x.t
 unfolding deed_room
 choice_room x = fold-stmt-If deed_layer x ∙ ap (λ n. n + else_layer (map_else deed_room x.otherwise) + 4) (total_map deed_room x.then) ∙ ap (λ n. deeds_room x.then + n + 4) (else_total x.otherwise)
 
-pub match_room : (e : Expr) (arms : List (Arm Stmt)) → deed_room (stmt.Match e arms) ≡ total (λ a. deeds_room a.body) arms + 4
+pub match_room : (e : Expr) (arms : List (Arm Stmt)) → deed_room (stmt.Match e arms) ≡ arms_room arms + 4
 unfolding deed_room
 match_room e arms = fold-stmt-Match deed_layer e arms ∙ ap (λ n. n + 4) (arms_total deed_room arms)
 
@@ -44,12 +44,12 @@ unfolding deed_room
 map_room p name body = fold-stmt-Map deed_layer p name body ∙ ap (λ n. n + 4) (total_map deed_room body)
 
 -- the body of an arm
-pub arm_within : (items : List Item) (v : Value) (arms : List (Arm Stmt)) (body : List Stmt) → first_body items v arms ≡ Some body → deeds_room body ≤ total (λ a. deeds_room a.body) arms
+pub arm_within : (items : List Item) (v : Value) (arms : List (Arm Stmt)) (body : List Stmt) → first_body items v arms ≡ Some body → deeds_room body ≤ arms_room arms
 arm_within items v [] body is = absurd (cc)
 arm_within items v (a ∷ arms) body is = by (takes items v a.pattern) is (arm_within items v arms body)
   where
-    by : (b : Bool) → cond b (Some a.body) (first_body items v arms) ≡ Some body → (first_body items v arms ≡ Some body → deeds_room body ≤ total (λ a. deeds_room a.body) arms)
-        → deeds_room body ≤ deeds_room a.body + total (λ a. deeds_room a.body) arms
+    by : (b : Bool) → cond b (Some a.body) (first_body items v arms) ≡ Some body → (first_body items v arms ≡ Some body → deeds_room body ≤ arms_room arms)
+        → deeds_room body ≤ deeds_room a.body + arms_room arms
     by true is later = let same = ap (λ body. deeds_room body) (same_Some a.body body is) in omega (arith, same)
     by false is later = let le = later is in omega (arith, le)
 

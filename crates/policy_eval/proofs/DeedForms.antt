@@ -60,7 +60,7 @@ module _ (items : List Item) (setting : Setting) where
   abbrev step : Stmt → Act
   step = act items says
 
-  deeds_same : (body : List Stmt) (env : Env) (w : World) → acts (map step body) env w ≡ deeds items setting body env w
+  pub deeds_same : (body : List Stmt) (env : Env) (w : World) → acts (map step body) env w ≡ deeds items setting body env w
   unfolding deed
   deeds_same [] env w = refl
   deeds_same (s ∷ more) env w = then_same (step s env w) (acts (map step more)) (deeds items setting more) (deeds_same more)

@@ -1,22 +1,35 @@
 -- How a block ends, and what is known of it in a well-typed policy.
 use Rattle.std.proofs.Common.{◌≡◌, ℕ, List, [], Option, Some, None, Result, Ok, Err, refl, sym, ap, subst, ◌∙◌}
+use Rattle.base_bytes.specs.declared.value.Value.{Value}
 use Rattle.fact_store.specs.declared.row.Row.{Row}
+use Rattle.policy_ast.specs.declared.finish.FinishStmt.{FinishStmt}
+use Rattle.policy_ast.specs.declared.item.Item.{Item}
 use Rattle.policy_ast.specs.declared.policy.PlacedItem.{PlacedItem}
+use Rattle.policy_ast.specs.declared.statement.Stmt.{Stmt}
 use Rattle.policy_expressions.specs.Answers.{Stops}
+use Rattle.policy_expressions.specs.Meant.{stmt_meant, stmts_meant}
 use Rattle.policy_expressions.specs.declared.stop.Stop.{Stop}
 use Rattle.policy_expressions.specs.declared.stop.Stop.TheVariants as stop
 use Rattle.policy_meaning.proofs.TypedFacts.{effects_none}
-use Rattle.policy_meaning.specs.Applying.{Checks, Ended, Faults, Passes, Sticks, block_ended}
-use Rattle.policy_meaning.specs.Blocks.{Runs, effects_of, ended, rows_after}
-use Rattle.policy_meaning.specs.Outcomes.{Out}
-use Rattle.policy_meaning.specs.Statements.{Ran}
+use Rattle.policy_meaning.specs.Applying.{Checks, Ended, Faults, Passes, Sticks, applied, block_ended}
+use Rattle.policy_meaning.specs.Blocks.{Runs, body_ended, command_setting, effects_of, ended, most_turns, rows_after}
+use Rattle.policy_meaning.specs.Environments.{Env}
+use Rattle.policy_meaning.specs.Finish.{Change}
+use Rattle.policy_meaning.specs.Functions.{finish}
+use Rattle.policy_meaning.specs.Outcomes.{Out, Done, ◌>>=◌}
+use Rattle.policy_meaning.specs.Statements.{Finishes, Goes, Ran, Returns, ran}
 use Rattle.policy_meaning.specs.Typed.{AreEffectsOf, AreTyped}
+use Rattle.policy_meaning.specs.declared.call.Call.{Call}
 use Rattle.policy_meaning.specs.declared.effect.Effect.{Effect}
 use Rattle.policy_meaning.specs.declared.ends.FaultKind.{FaultKind}
 use Rattle.policy_meaning.specs.declared.ends.Verdict.{Verdict}
 use Rattle.policy_meaning.specs.declared.ends.Verdict.TheVariants as verdict
 use Rattle.policy_types.specs.EndsWell.{EndsWell}
+use Rattle.policy_rules.specs.Calls.{longest_chain}
+use Rattle.policy_eval.proofs.ListingForms.{finish_same}
+use Rattle.policy_eval.proofs.ListingLoops.{stops_as, stops_then}
 use Rattle.policy_eval.specs.working.Ending.{EndsSo}
+use Rattle.policy_eval.specs.working.Listing.{stmts_listed}
 
 -- statements that end early end the block
 pub ends_early : (why : Stop) (out : Out Ran) (rows : List Row) → Stops why out → EndsSo (Err why) (block_ended rows out) rows rows
@@ -25,9 +38,37 @@ ends_early (stop.Fault kind) out rows is = (ap (block_ended rows) is, refl)
 ends_early stop.Stuck out rows is = ap (block_ended rows) is
 ends_early stop.NoMemory out rows is = tt
 
--- a block that ends in another way ends so too, where it is the same
-pub ends_as : (r : Result (List Effect) Stop) (block other : Ended) (old new : List Row) → block ≡ other → EndsSo r other old new → EndsSo r block old new
-ends_as r block other old new same is = subst (λ block. EndsSo r block old new) (sym same) is
+-- ---- the statements of a block, by what they come to
+
+module _ (items : List Item) (call : Call) (rows : List Row) (body : List Stmt) (left : ℕ) where
+  abbrev meant_so : Out Ran
+  meant_so = stmts_meant items rows (command_setting call) longest_chain (finish items rows (command_setting call)) body [] most_turns
+
+  same_so : body_ended items call rows body ≡ block_ended rows meant_so
+  unfolding stmt_meant
+  same_so = refl
+
+  pub block_fails : (why : Stop) → Stops why meant_so → EndsSo (Err why) (body_ended items call rows body) rows rows
+  block_fails why is = subst (λ block. EndsSo (Err why) block rows rows) (sym same_so) (ends_early why meant_so rows is)
+
+  pub block_goes : (env : Env) → meant_so ≡ ran Goes env left → EndsSo (Ok []) (body_ended items call rows body) rows rows
+  block_goes env is = same_so ∙ ap (block_ended rows) is
+
+  pub block_returns : (v : Value) (env : Env) → meant_so ≡ ran (Returns v) env left → EndsSo (Err stop.Stuck) (body_ended items call rows body) rows rows
+  block_returns v env is = same_so ∙ ap (block_ended rows) is
+
+  module _ (statements : List FinishStmt) (env behind : Env)
+      (reached : meant_so ≡ (finish items rows (command_setting call) statements env left >>= λ changes turns. ran (Finishes changes) behind turns)) where
+    listed_so : meant_so ≡ (stmts_listed items rows (command_setting call) longest_chain statements env left >>= λ changes turns. ran (Finishes changes) behind turns)
+    listed_so = reached ∙ ap (λ out. out >>= λ changes turns. ran (Finishes changes) behind turns) (finish_same items rows (command_setting call) statements env left)
+
+    pub listing_fails : (why : Stop) → Stops why (stmts_listed items rows (command_setting call) longest_chain statements env left) → EndsSo (Err why) (body_ended items call rows body) rows rows
+    listing_fails why is = block_fails why (stops_as why _ _ listed_so (stops_then why _ (λ changes turns. ran (Finishes changes) behind turns) is))
+
+    pub listing_applies : (r : Result (List Effect) Stop) (changes : List Change) (now : ℕ) (new : List Row) → stmts_listed items rows (command_setting call) longest_chain statements env left ≡ Done changes now
+        → EndsSo r (applied changes rows) rows new → EndsSo r (body_ended items call rows body) rows new
+    listing_applies r changes now new is ends =
+        subst (λ block. EndsSo r block rows new) (sym (same_so ∙ ap (block_ended rows) (listed_so ∙ ap (λ out. out >>= λ changes turns. ran (Finishes changes) behind turns) is))) ends
 
 -- ---- verdicts
 

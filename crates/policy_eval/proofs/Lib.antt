@@ -9,8 +9,10 @@ pub mod Flows
 mod ActingFacts
 mod DeedForms
 mod ActForms
+mod ActArms
 mod ActionRoomFacts
 mod ActionLoops
 mod ActionEnds
 mod ListingForms
+mod ListingLoops
 mod EndingFacts

@@ -7,4 +7,5 @@ pub mod ActionRooms
 pub mod Acting
 pub mod ActionSteps
 pub mod Listing
+pub mod ListingSteps
 pub mod Ending

@@ -1,24 +1,24 @@
 //! Statements of actions.
 
-ghost use Rattle.std.specs.Prelude.{◌≡◌, ℕ, List, IfOk, IfSome, IsTrue, OnOk};
-ghost use Rattle.std.specs.Option.{option_copied};
-ghost use Rattle.fact_store.specs.Matching.{selected};
+ghost use Rattle.std.specs.Prelude.{◌≡◌, ◌≤◌, ℕ, List, IfOk, IfSome, IsTrue, OnOk};
+ghost use Rattle.base_bytes.specs.declared.value.Value.{Value};
 ghost use Rattle.fact_store.specs.Rows.{are_keys};
 ghost use Rattle.fact_store.specs.declared.wanted.Wanted.{Wanted};
 ghost use Rattle.policy_expressions.specs.Answers.{Gives, Keeps, Leaves};
 ghost use Rattle.policy_meaning.specs.Actions.{each_row, inside, published};
-ghost use Rattle.policy_meaning.specs.Arms.{first_body};
-ghost use Rattle.policy_meaning.specs.Environments.{with_value};
-ghost use Rattle.policy_meaning.specs.Outcomes.{Done, Out, ◌>>=◌, with_turn};
-ghost use Rattle.policy_meaning.specs.Patterns.{row_value};
+ghost use Rattle.policy_meaning.specs.Outcomes.{Out};
 ghost use Rattle.policy_meaning.specs.Typed.{AreTyped, IsCommandOf};
 ghost use Rattle.policy_meaning.specs.Values.{struct_parts};
 ghost use Rattle.policy_rules.specs.WellTyped.{items_of};
 ghost use Rattle.policy_eval.specs.working.Acting.{Acts, GivesRows, GoesWell, standing};
-ghost use Rattle.policy_eval.specs.working.Deeds.{deed, deeds, else_deed};
+ghost use Rattle.policy_eval.specs.working.ActionRooms.{arms_room, deeds_room};
+ghost use Rattle.policy_eval.specs.working.Deeds.{deed, deeds, else_deed, row_entered, rows_matching};
+ghost use Rattle.policy_eval.specs.working.Endings.{GivesBody};
+ghost use Rattle.policy_eval.specs.working.Steps.{body_of};
 
 use crate::cause::{Cause, caused};
-use crate::expressions::{LONGEST, value_of, wanted_of};
+use crate::expressions::{value_of, wanted_of};
+use crate::limits::LONGEST;
 use base_bytes::{Steps, Value};
 use fact_store::{FactBase, Row, Wanted};
 use policy_ast::{Arm, Else, IfStmt, Name, Stmt};
@@ -56,22 +56,31 @@ fn publish<F: FactBase, P: Desk<F>, L: Ledger>(
 /// The rows that a `map` goes through.
 fn rows_of<F: FactBase>(alloc: Global, facts: &F, found: Answer<Wanted>) -> Answer<Vec<Row>>
     requires keys { IfOk found (λ wanted. IsTrue (are_keys wanted.keys)) }
-    ensures { (turns : ℕ) (out : Out Wanted) → Gives found turns out → GivesRows result turns (out >>= λ q turns. Done (selected q (F.rows facts.now)) turns) }
+    ensures { (turns : ℕ) (out : Out Wanted) → Gives found turns out → GivesRows result turns (rows_matching (F.rows facts.now) out) }
 {
     let wanted = found?;
     Ok(facts.select(alloc, &wanted)?)
 }
 
-/// The body of the arm that takes the value.
-fn arm_of<'b>(known: &Known<'_>, value: Value, arms: &'b [Arm<Stmt>]) -> Option<&'b [Stmt]>
-    ensures { option_copied result ≡ first_body known.now value arms.now }
+/// The body of the first arm that takes the value.
+fn arm_body<'b>(
+    known: &Known<'_>,
+    arms: &'b [Arm<Stmt>],
+    found: Answer<Value>,
+) -> Answer<&'b [Stmt]>
+    ensures gives { (turns : ℕ) (out : Out Value) → Gives found turns out → GivesBody result turns (body_of known.now arms.now out) }
+    ensures within { IfOk result (λ body. deeds_room body.now ≤ arms_room arms.now) }
 {
-    first_body(known, &value, arms)
+    let value = found?;
+    match first_body(known, &value, arms) {
+        Some(body) => Ok(body),
+        None => Err(Stop::Stuck),
+    }
 }
 
 /// Takes a turn, and names a row.
 fn enter_row<'a>(env: &mut Env<'a>, turns: &mut u32, name: &'a Name, row: Row) -> Answer<()>
-    ensures gives { Leaves result env.new turns.new (with_turn (λ turns. Done (with_value env.old name.now (row_value row)) turns) turns.old) }
+    ensures gives { Leaves result env.new turns.new (row_entered name.now env.old row turns.old) }
     ensures kept { Keeps env.old env.new }
 {
     take_turn(turns)?;
@@ -119,13 +128,9 @@ fn act<'a, F: FactBase, P: Desk<F>, L: Ledger>(
             }
         }
         Stmt::Match(e, arms) => {
-            let value = value_of(alloc, known, &*facts, setting, LONGEST, env, turns, e)?;
-            match arm_of(known, value, arms.as_slice()) {
-                Some(body) => {
-                    act_block(alloc, known, setting, facts, desk, steps, env, turns, body)
-                }
-                None => Err(Cause::Stop(Stop::Stuck)),
-            }
+            let found = value_of(alloc, known, &*facts, setting, LONGEST, env, turns, e);
+            let body = arm_body(known, arms.as_slice(), found)?;
+            act_block(alloc, known, setting, facts, desk, steps, env, turns, body)
         }
         Stmt::Map(p, name, body) => {
             let found = wanted_of(alloc, known, &*facts, setting, LONGEST, env, turns, p);

@@ -1,21 +1,21 @@
 //! The policy block and the recall block of a command.
 
-ghost use Rattle.std.specs.Prelude.{◌≡◌, IfOk, List, OnOk, slice_get};
+ghost use Rattle.std.specs.Prelude.{◌≡◌, Err, IfOk, List, OnOk};
 ghost use Rattle.std.specs.Option.{option_copied};
-ghost use Rattle.base_bytes.specs.Values.{fits_id};
 ghost use Rattle.fact_store.specs.declared.row.Row.{Row};
 ghost use Rattle.policy_meaning.specs.Applying.{Ended};
 ghost use Rattle.policy_meaning.specs.Blocks.{Runs, body_ended, called_sections, effects_of, policy_block, policy_body, recall_block, recall_body};
 ghost use Rattle.policy_meaning.specs.Typed.{AreEffectsOf, AreTyped, IsCommandOf};
 ghost use Rattle.policy_rules.specs.WellTyped.{items_of};
-ghost use Rattle.policy_types.specs.Fitting.{IsId};
 ghost use Rattle.policy_eval.specs.working.Ending.{EndsSo};
+ghost use Rattle.policy_expressions.specs.declared.stop.Stop.TheVariants as stop;
 
-use crate::expressions::LONGEST;
 use crate::finish::listed;
 use crate::flow::Flow;
-use crate::statements::run;
-use base_bytes::{Id, NoMemory};
+use crate::ids::is_id;
+use crate::limits::{LONGEST, TURNS};
+use crate::statements::run_all;
+use base_bytes::NoMemory;
 use fact_store::FactBase;
 use policy_ast::{Item, Section, Stmt};
 use policy_expressions::{Answer, Env, Known, Setting, Stop, apply_or_leave};
@@ -23,9 +23,6 @@ use policy_meaning::{Call, Effects, Verdict};
 use policy_types::Checked;
 use policy_types::laws::blocks_are_never_stuck;
 use std::alloc::Global;
-
-/// The turns of one evaluation.
-pub(crate) const TURNS: u32 = 100_000;
 
 /// Runs a block of a command.
 fn run_block<'a, F: FactBase>(
@@ -40,7 +37,7 @@ fn run_block<'a, F: FactBase>(
     let setting = Setting::of_command(call);
     let mut env = Env::new(alloc);
     let mut turns = TURNS;
-    match run(alloc, known, &*facts, &setting, LONGEST, &mut env, &mut turns, body)? {
+    match run_all(alloc, known, &*facts, &setting, LONGEST, &mut env, &mut turns, body)? {
         Flow::Goes => Ok(Effects::new(alloc)),
         Flow::Returns(_) => Err(Stop::Stuck),
         Flow::Reached(statements) => {
@@ -124,19 +121,6 @@ fn run_recall<F: FactBase>(
     run_block(alloc, &known, call, facts, body)
 }
 
-/// An id is 32 bytes.
-fn id_is(id: &Id)
-    ensures { IsId id.now }
-{
-    is_id(id.as_slice());
-}
-
-fn is_id(bytes: &[u8]) -> bool
-    ensures { result ≡ fits_id bytes.now }
-{
-    bytes.len() == 32
-}
-
 /// The verdict by how a block ended, which wasn't stuck.
 fn verdict_of(found: Answer<Effects>) -> Result<Verdict, NoMemory>
     requires { found ≡ Err stop.Stuck → ⊥ }
@@ -165,8 +149,8 @@ pub(crate) fn policy_verdict<F: FactBase>(
     ensures effects { IfOk result (λ verdict. AreEffectsOf checked.now (effects_of verdict)) }
 {
     blocks_are_never_stuck();
-    id_is(&call.author);
-    id_is(&call.id);
+    is_id(&call.author);
+    is_id(&call.id);
     verdict_of(run_policy(alloc, checked, call, facts))
 }
 
@@ -184,7 +168,7 @@ pub(crate) fn recall_verdict<F: FactBase>(
     ensures effects { IfOk result (λ verdict. AreEffectsOf checked.now (effects_of verdict)) }
 {
     blocks_are_never_stuck();
-    id_is(&call.author);
-    id_is(&call.id);
+    is_id(&call.author);
+    is_id(&call.id);
     verdict_of(run_recall(alloc, checked, call, facts))
 }

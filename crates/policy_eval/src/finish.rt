@@ -3,16 +3,18 @@
 ghost use Rattle.std.specs.Prelude.{◌≡◌, IfOk};
 ghost use Rattle.policy_expressions.specs.Answers.{Gives, Leaves};
 ghost use Rattle.policy_eval.specs.working.Listing.{behind, change_listed, finish_call, stmt_listed, stmts_listed};
+ghost use Rattle.policy_eval.specs.working.ListingSteps.{EntersFinish};
+ghost use Rattle.policy_rules.specs.Calls.{longest_chain};
 
-use crate::expressions::{LONGEST, bind_values, value_of, values_of, wanted_of};
+use crate::expressions::{bound_values, value_of, values_of, wanted_of};
+use crate::limits::LONGEST;
 use base_bytes::Values;
 use fact_store::FactBase;
 use policy_ast::{FinishStmt, Item, Name};
 use policy_expressions::{
-    Answer, Change, Env, Known, Setting, Stop, create_of, delete_of, emit_of, push_change,
+    Answer, Change, Changes, Env, Known, Setting, Stop, create_of, delete_of, emit_of, push_change,
     take_turn, update_of,
 };
-use sqlite_items::Items;
 use std::alloc::Global;
 
 /// A write or an effect, by the values of its expressions in written order. A call of a finish function is none.
@@ -30,19 +32,19 @@ fn change<'a, F: FactBase>(
 {
     match s {
         FinishStmt::Create { fact, keys, values } => {
-            let keys = bind_values(alloc, known, facts, setting, LONGEST, env, turns, keys.as_slice())?;
+            let keys = bound_values(alloc, known, facts, setting, LONGEST, env, turns, keys.as_slice())?;
             let values = values.as_slice();
-            let found = bind_values(alloc, known, facts, setting, LONGEST, env, turns, values);
+            let found = bound_values(alloc, known, facts, setting, LONGEST, env, turns, values);
             create_of(alloc, known, fact, keys, values, found)
         }
         FinishStmt::Update { from, to } => {
             let old = wanted_of(alloc, known, facts, setting, LONGEST, env, turns, from)?;
             let to = to.as_slice();
-            let found = bind_values(alloc, known, facts, setting, LONGEST, env, turns, to);
+            let found = bound_values(alloc, known, facts, setting, LONGEST, env, turns, to);
             update_of(alloc, known, &from.fact, old, to, found)
         }
         FinishStmt::Delete { fact, keys } => {
-            let found = bind_values(alloc, known, facts, setting, LONGEST, env, turns, keys.as_slice());
+            let found = bound_values(alloc, known, facts, setting, LONGEST, env, turns, keys.as_slice());
             delete_of(known, fact, found)
         }
         FinishStmt::Emit(e) => {
@@ -62,7 +64,7 @@ fn list_one<'a, F: FactBase>(
     depth: u32,
     env: &mut Env<'a>,
     turns: &mut u32,
-    changes: &mut Items<Change>,
+    changes: &mut Changes,
     s: &'a FinishStmt,
 ) -> Answer<()>
     ensures lists { Leaves result changes.new turns.new (behind changes.old (stmt_listed known.now (F.rows facts.now) setting.now depth s.now env.old turns.old)) }
@@ -92,7 +94,7 @@ fn list_all<'a, F: FactBase>(
     depth: u32,
     env: &mut Env<'a>,
     turns: &mut u32,
-    changes: &mut Items<Change>,
+    changes: &mut Changes,
     statements: &'a [FinishStmt],
 ) -> Answer<()>
     ensures lists { Leaves result changes.new turns.new (behind changes.old (stmts_listed known.now (F.rows facts.now) setting.now depth statements.now env.old turns.old)) }
@@ -104,7 +106,32 @@ fn list_all<'a, F: FactBase>(
     Ok(())
 }
 
-/// A call of a finish function, which takes a turn as it begins. In it an expression knows its names alone.
+/// The body of the finish function of this name, which is entered with these values: a turn is taken, and its parameters are the names in scope.
+fn finish_entrance<'a>(
+    alloc: Global,
+    known: &Known<'a>,
+    turns: &mut u32,
+    name: &Name,
+    values: Values,
+    env: &mut Env<'a>,
+) -> Answer<&'a [FinishStmt]>
+    ensures { EntersFinish result known.now name.now values env.new turns.old turns.new }
+{
+    let Some(item) = known.item_named(name) else {
+        return Err(Stop::Stuck);
+    };
+    let Item::FinishFunction {
+        parameters, body, ..
+    } = item
+    else {
+        return Err(Stop::Stuck);
+    };
+    take_turn(turns)?;
+    *env = Env::of_parameters(alloc, parameters.as_slice(), values)?;
+    Ok(body.as_slice())
+}
+
+/// A call of a finish function. In it an expression knows its names alone.
 #[cycle(list)]
 fn list_call<'a, F: FactBase>(
     alloc: Global,
@@ -112,7 +139,7 @@ fn list_call<'a, F: FactBase>(
     facts: &F,
     depth: u32,
     turns: &mut u32,
-    changes: &mut Items<Change>,
+    changes: &mut Changes,
     name: &Name,
     values: Values,
 ) -> Answer<()>
@@ -121,14 +148,10 @@ fn list_call<'a, F: FactBase>(
     if depth == 0 {
         return Err(Stop::Stuck);
     }
-    match known.item_named(name) {
-        Some(Item::FinishFunction { parameters, body, .. }) => {
-            take_turn(turns)?;
-            let mut env = Env::of_parameters(alloc, parameters.as_slice(), values)?;
-            list_all(alloc, known, facts, &Setting::none(), depth - 1, &mut env, turns, changes, body.as_slice())
-        }
-        _ => Err(Stop::Stuck),
-    }
+    let mut env = Env::new(alloc);
+    let body = finish_entrance(alloc, known, turns, name, values, &mut env)?;
+    let setting = Setting::none();
+    list_all(alloc, known, facts, &setting, depth - 1, &mut env, turns, changes, body)
 }
 
 /// What a `finish` block lists.
@@ -140,10 +163,10 @@ pub(crate) fn listed<'a, F: FactBase>(
     env: &mut Env<'a>,
     turns: &mut u32,
     statements: &'a [FinishStmt],
-) -> Answer<Items<Change>>
+) -> Answer<Changes>
     ensures { Gives result turns.new (stmts_listed known.now (F.rows facts.now) setting.now longest_chain statements.now env.old turns.old) }
 {
-    let mut changes = Items::new(alloc);
+    let mut changes = Changes::new(alloc);
     list_all(alloc, known, facts, setting, LONGEST, env, turns, &mut changes, statements)?;
     Ok(changes)
 }

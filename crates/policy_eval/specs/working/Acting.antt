@@ -1,13 +1,17 @@
 -- What a part of an action at a desk tells: the postings that it made, and what it means where the desk answers so.
-use Rattle.std.specs.Prelude.{◌≡◌, ℕ, ◌+◌, List, ◌++◌, map, Option, Some, None, Result, Ok, Err}
+use Rattle.std.specs.Prelude.{◌≡◌, ℕ, ◌+◌, List, ◌++◌, map, Option, Some, None, option_and_then, Result, Ok, Err}
+use Rattle.std.specs.Global.{Vec}
 use Rattle.fact_store.specs.declared.row.Row.{Row}
 use Rattle.policy_ast.specs.declared.policy.PlacedItem.{PlacedItem}
+use Rattle.policy_expressions.specs.Answers.{Stops as HaltsBy}
 use Rattle.policy_expressions.specs.declared.stop.Stop.{Stop as Halted}
 use Rattle.policy_expressions.specs.declared.stop.Stop.TheVariants as stop
-use Rattle.policy_meaning.specs.Actions.{Answer, Brought, Deed, Did, Stops, Stop, Halts, IsRefused, Asks, World, with_turns}
+use Rattle.policy_meaning.specs.Actions.{Answer, Brought, Deed, Did, Stops, Stop, Halts, IsRefused, Asks, World, stop_end, with_turns}
 use Rattle.policy_meaning.specs.Desks.{Chain, Posting, answer, brought, total}
-use Rattle.policy_meaning.specs.Outcomes.{Check, Fault, Stuck}
+use Rattle.policy_meaning.specs.Outcomes.{Check, Fault, Stuck, Out, Done}
 use Rattle.policy_meaning.specs.Typed.{AreTyped}
+use Rattle.policy_meaning.specs.declared.ends.ActionEnd.{ActionEnd}
+use Rattle.policy_meaning.specs.declared.ends.ActionEnd.TheVariants as end
 use Rattle.policy_types.specs.ActsWell.{LeaveTyped, MayStop}
 use Rattle.policy_eval.specs.declared.cause.Cause.{Cause}
 use Rattle.policy_eval.specs.declared.cause.Cause.TheVariants as cause
@@ -68,6 +72,22 @@ StopsFor publishes policy (Some why) deed old new = Acted publishes policy deed 
 abbrev pub Acts : {D A X : Type 0} → (D → List Row → Posting → D → Type 0) → List PlacedItem → Result X Cause → A → (World → Deed A) → Standing D → Standing D → Type 0
 Acts publishes policy (Ok done) x deed old new = Acted publishes policy deed (Did x) old new
 Acts publishes policy (Err why) x deed old new = StopsFor publishes policy (reason why) deed old new
+
+-- The same of a whole action, whose turns nobody asks for in the end.
+pub record ActsAtLast {D : Type 0} (publishes : D → List Row → Posting → D → Type 0) (policy : List PlacedItem) (result : Result (Unit {0}) Cause) (deed : World → Deed (Unit {0})) (old : D) (rows : List Row)
+    (turns before : ℕ) (new : D) (last : List Row) (now : ℕ) : Type 0 where
+  pub left : ℕ
+  pub acts : Acts publishes policy result tt deed (standing old rows turns before) (standing new last left now)
+
+-- How an action ends that was done or stopped so; out of memory it has no end, nor where it is stuck.
+abbrev pub ended_by : Result (Unit {0}) Cause → Option ActionEnd
+ended_by (Ok done) = Some end.Done
+ended_by (Err why) = option_and_then stop_end (reason why)
+
+-- A call answered the rows that an evaluation gives.
+abbrev pub GivesRows : Result (Vec Row) Halted → ℕ → Out (List Row) → Type 0
+GivesRows (Ok rows) turns out = out ≡ Done rows.items turns
+GivesRows (Err why) turns out = HaltsBy why out
 
 -- ---- what is known before
 

@@ -1,5 +1,6 @@
 -- How much room a statement of an action takes: a number that falls with each call of what runs it.
 use Rattle.std.specs.Prelude.{ℕ, ◌+◌, List, Option, Some, None}
+use Rattle.policy_ast.specs.declared.statement.Arm.{Arm}
 use Rattle.policy_ast.specs.declared.statement.Else.{Else}
 use Rattle.policy_ast.specs.declared.statement.Else.TheVariants as else_stmt
 use Rattle.policy_ast.specs.declared.statement.Stmt.{Stmt, fold-Stmt}
@@ -23,6 +24,10 @@ deed_room s = fold-Stmt ℕ deed_layer s
 -- statements one after another
 abbrev pub deeds_room : List Stmt → ℕ
 deeds_room body = total deed_room body
+
+-- the bodies of arms
+abbrev pub arms_room : List (Arm Stmt) → ℕ
+arms_room arms = total (λ a. deeds_room a.body) arms
 
 -- what follows `else`
 abbrev pub else_deed_room : Option (Else Stmt) → ℕ
