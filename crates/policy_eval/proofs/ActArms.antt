@@ -1,5 +1,5 @@
 -- What the code owes for each form of statement of an action.
-use Rattle.std.proofs.Common.{◌≡◌, ℕ, Bool, true, false, cond, IfSome, List, [], Option, Some, None, Result, Ok, Err, refl, sym, ap, subst, ◌∙◌}
+use Rattle.std.proofs.Common.{◌≡◌, ℕ, Bool, true, false, cond, IfSome, OnOk, List, [], Option, Some, None, Result, Ok, Err, refl, sym, ap, subst, ◌∙◌}
 use Rattle.std.specs.Borrow.{Bor}
 use Rattle.std.specs.Global.{Vec}
 use Rattle.base_bytes.specs.declared.value.Value.{Value}
@@ -12,10 +12,12 @@ use Rattle.policy_ast.specs.declared.item.Item.{Item}
 use Rattle.policy_ast.specs.declared.pattern.Pattern.{Pattern}
 use Rattle.policy_ast.specs.declared.policy.PlacedItem.{PlacedItem}
 use Rattle.policy_ast.specs.declared.statement.Arm.{Arm}
+use Rattle.policy_ast.specs.declared.statement.Else.{Else}
+use Rattle.policy_ast.specs.declared.statement.Else.TheVariants as else_stmt
 use Rattle.policy_ast.specs.declared.statement.IfStmt.{IfStmt}
 use Rattle.policy_ast.specs.declared.statement.Stmt.{Stmt}
 use Rattle.policy_ast.specs.declared.statement.Stmt.TheVariants as stmt
-use Rattle.policy_expressions.specs.Answers.{Gives, Leaves, Stops as HaltsBy}
+use Rattle.policy_expressions.specs.Answers.{Gives, Keeps, Leaves, Stops as HaltsBy}
 use Rattle.policy_expressions.specs.Forms.{check_of, one_named, truth_of}
 use Rattle.policy_expressions.specs.Meant.{meant, wanted_meant}
 use Rattle.policy_expressions.specs.declared.stop.Stop.{Stop as Halted}
@@ -30,6 +32,7 @@ use Rattle.policy_meaning.specs.Values.{struct_parts}
 use Rattle.policy_rules.specs.Calls.{longest_chain}
 use Rattle.policy_rules.specs.Names.{Name}
 use Rattle.policy_types.specs.ActsWell.{IsCommand}
+use Rattle.policy_eval.proofs.ActionLoops.{keeps_all}
 use Rattle.policy_eval.proofs.ActForms.{acts_all, begins, check_told, choice_told, fails, leaves, let_told, rows_told}
 use Rattle.policy_eval.proofs.ActingFacts.{acted_still, acted_then, goes_from, goes_into}
 use Rattle.policy_eval.proofs.DeedForms.{check_is, choice_is, finish_is, let_is, map_is, match_is, publish_is, return_is}
@@ -260,3 +263,51 @@ module _ {D : Type 0} (publishes : D → List Row → Posting → D → Type 0) 
   pub return_sticks : (e : Expr) → s ≡ stmt.Return e → StopsFor publishes policy (halted stop.Stuck) does start start
   return_sticks e is = acted_still publishes policy does (Stops (Halts Stuck)) desk rows turns turns ticks typed
       (λ left made. ap settled (ap (λ s. deed items setting s env (world rows left made turns)) is ∙ return_is items setting env (world rows left made turns) e))
+
+-- ---- names that are kept
+
+pub kept_same : {X A : Type 0} (r : Result X Cause) (first middle after : List A) → OnOk r (after ≡ middle) → middle ≡ first → OnOk r (Keeps first after)
+kept_same (Ok done) first middle after is same = subst (Keeps first) (sym (is ∙ same)) (keeps_all first)
+kept_same (Err why) first middle after is same = tt
+
+pub kept_more : {X A : Type 0} (r : Result X Cause) (first middle after : List A) → Keeps middle after → middle ≡ first → OnOk r (Keeps first after)
+kept_more (Ok done) first middle after kept same = subst (λ first. Keeps first after) same kept
+kept_more (Err why) first middle after kept same = tt
+
+-- ---- what follows `else`
+
+module _ {D : Type 0} (publishes : D → List Row → Posting → D → Type 0) (policy : List PlacedItem) (items : List Item) (setting : Setting) (env : Env) (o : Option (Else Stmt)) where
+  abbrev otherwise : World → Deed Env
+  otherwise = inside (else_deed items setting o) env
+
+  pub else_none : o ≡ None → (old : Standing D) → AreTyped policy old.rows → Acted publishes policy otherwise (Did env) old old
+  else_none is old typed = acted_still publishes policy otherwise (Did env) old.desk old.rows old.turns old.turns old.ticks typed
+      (λ left made. ap (λ o. settled (inside (else_deed items setting o) env (world old.rows left made old.turns))) is)
+
+  module _ (body inner : List Stmt) (is : o ≡ Some (else_stmt.Block body)) (same : inner ≡ body) where
+    block_is : o ≡ Some (else_stmt.Block inner)
+    block_is = is ∙ ap (λ body. Some (else_stmt.Block body)) (sym same)
+
+    pub else_block_goes : (rows : List Row) (turns : ℕ) → GoesWell policy otherwise rows turns → GoesWell policy (inside (deeds items setting inner) env) rows turns
+    else_block_goes rows turns goes = subst (λ o. GoesWell policy (inside (else_deed items setting o) env) rows turns) block_is goes
+
+    pub else_block_on : (r : Result (Unit {0}) Cause) (after : Env) (old new : Standing D) → Acts publishes policy r after (inside (deeds items setting inner) env) old new → Acts publishes policy r after otherwise old new
+    else_block_on r after old new acts = subst (λ o. Acts publishes policy r after (inside (else_deed items setting o) env) old new) (sym block_is) acts
+
+  module _ (s inner : Stmt) (is : o ≡ Some (else_stmt.If s)) (same : inner ≡ s) where
+    if_is : o ≡ Some (else_stmt.If inner)
+    if_is = is ∙ ap (λ s. Some (else_stmt.If s)) (sym same)
+
+    pub else_if_goes : (rows : List Row) (turns : ℕ) → GoesWell policy otherwise rows turns → GoesWell policy (deed items setting inner env) rows turns
+    else_if_goes rows turns goes = goes_into policy (deed items setting inner env) (λ inner w. Did env w) rows turns (subst (λ o. GoesWell policy (inside (else_deed items setting o) env) rows turns) if_is goes)
+
+    pub else_if_stops : (why : Cause) (old new : Standing D) → StopsFor publishes policy (reason why) (deed items setting inner env) old new → StopsFor publishes policy (reason why) otherwise old new
+    else_if_stops why old new stops = subst (λ o. StopsFor publishes policy (reason why) (inside (else_deed items setting o) env) old new) (sym if_is) (of (reason why) stops)
+      where
+        of : (why : Option Stop) → StopsFor publishes policy why (deed items setting inner env) old new → StopsFor publishes policy why (inside (else_deed items setting (Some (else_stmt.If inner))) env) old new
+        of None stops = tt
+        of (Some why) stops = acted_then publishes policy (deed items setting inner env) (Stops why) (λ inner w. Did env w) old new stops
+
+    pub else_if_on : (after last : Env) (old new : Standing D) → Acted publishes policy (deed items setting inner env) (Did after) old new → last ≡ env → Acted publishes policy otherwise (Did last) old new
+    else_if_on after last old new acted kept = subst (λ last. Acted publishes policy otherwise (Did last) old new) (sym kept)
+        (subst (λ o. Acted publishes policy (inside (else_deed items setting o) env) (Did env) old new) (sym if_is) (acted_then publishes policy (deed items setting inner env) (Did after) (λ inner w. Did env w) old new acted))

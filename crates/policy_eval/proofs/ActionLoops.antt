@@ -121,6 +121,12 @@ module _ {D : Type 0} (publishes : D → List Row → Posting → D → Type 0) 
         ∙ then_same (told w (entered row w.turns)) (λ env w. deeds items setting body env w >>> next more) (λ env w. inside (deeds items setting body) env w >>> next more)
         (λ env w. inside_told (deeds items setting body env w) env (each_row name (deeds items setting body) first more))
 
+    pub rows_end : {left : List Row} {env : Env} {old now : Standing D} → RowsSoFar publishes policy items setting name body all left first env old now → left ≡ []
+        → Acted publishes policy (each_row name (deeds items setting body) first all) (Did env) old now
+    rows_end {left} {env} {old} {now} so_far none = subst (λ env. Acted publishes policy (each_row name (deeds items setting body) first all) (Did env) old now) (sym so_far.same)
+        (acted_to publishes policy (each_row name (deeds items setting body) first all) (each_row name (deeds items setting body) first left) (Did first) old now
+        (λ w. ap (λ left. settled (each_row name (deeds items setting body) first left w)) none) so_far.acted)
+
     module _ {row : Row} {more : List Row} {env : Env} {old now : Standing D} (so_far : RowsSoFar publishes policy items setting name body all (row ∷ more) first env old now) (left : ℕ) where
       -- no turn is left for a row
       pub row_fails : (why : Halted) → HaltsBy why (entered row now.turns) → StopsFor publishes policy (halted why) (each_row name (deeds items setting body) first all) old (record now { turns = left })

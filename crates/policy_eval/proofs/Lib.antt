@@ -9,9 +9,9 @@ pub mod Flows
 mod ActingFacts
 mod DeedForms
 mod ActForms
-mod ActArms
 mod ActionRoomFacts
 mod ActionLoops
+mod ActArms
 mod ActionEnds
 mod ListingForms
 mod ListingLoops

@@ -88,6 +88,15 @@ module _ (items : List Item) (rows : List Row) where
       unfolding stmt_listed finish_call meant
       call_listed called arguments = refl
 
+    -- whatever is no call
+    pub other_listed : (depth : ℕ) (env : Env) (turns : ℕ) (s : FinishStmt) → ((called : Name) (arguments : List Expr) → s ≡ finish.Call called arguments → ⊥)
+        → stmt_listed items rows setting depth s env turns ≡ one (change_listed items rows setting s env turns)
+    other_listed depth env turns (finish.Create fact keys values) other = create_listed depth env turns fact keys values
+    other_listed depth env turns (finish.Update p to) other = update_listed depth env turns p to
+    other_listed depth env turns (finish.Delete fact keys) other = delete_listed depth env turns fact keys
+    other_listed depth env turns (finish.Emit e) other = emit_listed depth env turns e
+    other_listed depth env turns (finish.Call called arguments) other = absurd (other called arguments refl)
+
     pub stmts_same : (depth : ℕ) (statements : List FinishStmt) (env : Env) (turns : ℕ)
         → all_listed items (expression items rows setting) (finish_called items (expression items rows no_setting) depth) statements env turns ≡ stmts_listed items rows setting depth statements env turns
     unfolding stmt_listed

@@ -1,5 +1,5 @@
 -- Statements of `finish` one after another.
-use Rattle.std.proofs.Common.{◌≡◌, ◌≤◌, ◌<◌, ℕ, zero, suc, ◌+◌, ◌-◌, ◌==◌, Bool, true, false, cond, List, [], ◌∷◌, ◌++◌, length, drop, get_or, Option, Some, None, Result, Ok, Err, refl, sym, ap, subst, ◌∙◌, arith}
+use Rattle.std.proofs.Common.{◌≡◌, ◌≤◌, ◌<◌, ℕ, zero, suc, ◌+◌, ◌-◌, ◌==◌, Bool, true, false, cond, List, [], ◌∷◌, ◌++◌, length, drop, get_or, Option, Some, None, option_and_then, Result, Ok, Err, refl, sym, ap, subst, ◌∙◌, arith}
 use Rattle.std.proofs.lemmas.Bool.Decides.{nat_tests}
 use Rattle.std.proofs.lemmas.List.{append-nil}
 use Rattle.base_bytes.specs.declared.value.Value.{Value}
@@ -26,7 +26,7 @@ use Rattle.policy_rules.specs.Types.{declared}
 use Rattle.policy_eval.proofs.ActionLoops.{left_at, past}
 use Rattle.policy_eval.proofs.ListingForms.{behind_first, behind_one, behind_then, call_listed, stmts_same}
 use Rattle.policy_eval.specs.working.Listing.{behind, change_listed, finish_call, one, stmt_listed, stmts_listed}
-use Rattle.policy_eval.specs.working.ListingSteps.{EntersFinish, ListSoFar}
+use Rattle.policy_eval.specs.working.ListingSteps.{ListSoFar, finish_parts, finish_parts_of}
 
 -- ---- evaluations that end early
 
@@ -47,6 +47,20 @@ leaves_as r x left out other same is = subst (Leaves r x left) (sym same) is
 -- a write or an effect
 pub change_on : (r : Result (Unit {0}) Stop) (front now : List Change) (left : ℕ) (whole : Out (List Change)) (out : Out Change) → whole ≡ one out → Leaves r now left (one_more front out) → Leaves r now left (behind front whole)
 change_on r front now left whole out is gives = leaves_as r now left (behind front whole) (one_more front out) (ap (behind front) is ∙ behind_one front out) gives
+
+-- a turn is there
+pub turn_taken : {A : Type 0} (next : ℕ → Out A) (left : ℕ) → with_turn next (left + 1) ≡ next left
+turn_taken next left = by (left + 1 == 0) some (left + 1 - 1) back
+  where
+    some : (left + 1 == 0) ≡ false
+    some = grind (arith, nat_tests)
+
+    back : left + 1 - 1 ≡ left
+    back = omega arith
+
+    by : (b : Bool) → b ≡ false → (n : ℕ) → n ≡ left → cond b (Ends (Fault fault.Turns)) (next n) ≡ next left
+    by true is n same = absurd (cc)
+    by false is n same = ap next same
 
 module _ (items : List Item) (rows : List Row) (setting : Setting) (depth : ℕ) where
   -- a call of a finish function, whose arguments have no values
@@ -92,41 +106,46 @@ module _ (items : List Item) (rows : List Row) (setting : Setting) (depth : ℕ)
 
 -- ---- calls of finish functions
 
--- a turn, and then the body
-pub finish_begins : (items : List Item) (name own : Name) (parameters : List Field) (body : List FinishStmt) (values : List Value) (turns left : ℕ) → item_named items name ≡ Some (item.FinishFunction own parameters body) → turns ≡ left + 1
-    → (next : List FinishStmt → Listing) → finish_entered next values (item_named items name) turns ≡ next body (bound_parameters (declared parameters) values) left
-finish_begins items name own parameters body values turns left is taken next =
-    ap (λ o. finish_entered next values o turns) is ∙ ap (λ turns. with_turn (next body (bound_parameters (declared parameters) values)) turns) taken ∙ by (left + 1 == 0) zero_no (left + 1 - 1) back
-  where
-    zero_no : (left + 1 == 0) ≡ false
-    zero_no = grind (arith, nat_tests)
-
-    back : left + 1 - 1 ≡ left
-    back = omega arith
-
-    by : (b : Bool) → b ≡ false → (n : ℕ) → n ≡ left → cond b (Ends (Fault fault.Turns)) (next body (bound_parameters (declared parameters) values) n) ≡ next body (bound_parameters (declared parameters) values) left
-    by true is n same = absurd (cc)
-    by false is n same = ap (next body (bound_parameters (declared parameters) values)) same
-
--- no turn is left for it
-pub finish_turnless : (items : List Item) (name own : Name) (parameters : List Field) (body : List FinishStmt) (values : List Value) (turns : ℕ) → item_named items name ≡ Some (item.FinishFunction own parameters body) → turns ≡ 0
-    → (next : List FinishStmt → Listing) → finish_entered next values (item_named items name) turns ≡ Ends (Fault fault.Turns)
-finish_turnless items name own parameters body values turns is none next =
-    ap (λ o. finish_entered next values o turns) is ∙ ap (λ turns. with_turn (next body (bound_parameters (declared parameters) values)) turns) none
-
 module _ (items : List Item) (rows : List Row) where
-  -- it is entered, and its body listed
-  pub entered_on : (r : Result (Unit {0}) Stop) (front now : List Change) (depth below : ℕ) (called : Name) (values : List Value) (body : List FinishStmt) (env : Env) (turns middle left : ℕ) → depth ≡ suc below
-      → ((next : List FinishStmt → Listing) → finish_entered next values (item_named items called) turns ≡ next body env middle)
-      → Leaves r now left (behind front (stmts_listed items rows no_setting below body env middle)) → Leaves r now left (behind front (finish_call items rows depth called values turns))
-  unfolding finish_call
-  entered_on r front now depth below called values body env turns middle left deep is gives =
-      leaves_as r now left _ _ (ap (behind front) (ap (λ depth. finish_called items (expression items rows no_setting) depth called values turns) deep
-          ∙ is (all_listed items (expression items rows no_setting) (finish_called items (expression items rows no_setting) below)) ∙ stmts_same items rows no_setting below body env middle)) gives
+  -- what a call lists, by the parts of its item
+  abbrev by_parts : ℕ → List Value → Option (List Field × List FinishStmt) → ℕ → Out (List Change)
+  by_parts below values (Some parts) turns = with_turn (stmts_listed items rows no_setting below parts.1 (bound_parameters (declared parts.0) values)) turns
+  by_parts below values None turns = Ends Stuck
 
-  pub entered_fails : (why : Stop) (front : List Change) (depth below : ℕ) (called : Name) (values : List Value) (turns : ℕ) → depth ≡ suc below
-      → ((next : List FinishStmt → Listing) → Stops why (finish_entered next values (item_named items called) turns)) → Stops why (behind front (finish_call items rows depth called values turns))
+  call_is : (below : ℕ) (called : Name) (values : List Value) (turns : ℕ) → finish_call items rows (suc below) called values turns ≡ by_parts below values (finish_parts items called) turns
   unfolding finish_call
-  entered_fails why front depth below called values turns deep is =
-      stops_as why _ _ (ap (λ depth. behind front (finish_called items (expression items rows no_setting) depth called values turns)) deep)
-      (stops_then why _ (λ more turns. Done (front ++ more) turns) (is (all_listed items (expression items rows no_setting) (finish_called items (expression items rows no_setting) below))))
+  call_is below called values turns = by (item_named items called)
+    where
+      by : (o : Option Item) → finish_entered (all_listed items (expression items rows no_setting) (finish_called items (expression items rows no_setting) below)) values o turns
+          ≡ by_parts below values (option_and_then finish_parts_of o) turns
+      by None = refl
+      by (Some (item.FinishFunction name parameters body)) = ap (λ out. cond (turns == 0) (Ends (Fault fault.Turns)) out) (stmts_same items rows no_setting below body (bound_parameters (declared parameters) values) (turns - 1))
+      by (Some other) = refl
+
+  module _ (front : List Change) (depth : ℕ) (called : Name) (values : List Value) (turns : ℕ) where
+    abbrev lists : Out (List Change)
+    lists = behind front (finish_call items rows depth called values turns)
+
+    pub call_too_deep : depth ≡ 0 → lists ≡ Ends Stuck
+    unfolding finish_call
+    call_too_deep deep = ap (λ depth. behind front (finish_called items (expression items rows no_setting) depth called values turns)) deep
+
+    module _ (deep : depth ≡ suc (depth - 1)) where
+      whole_is : lists ≡ behind front (by_parts (depth - 1) values (finish_parts items called) turns)
+      whole_is = ap (λ depth. behind front (finish_call items rows depth called values turns)) deep ∙ ap (behind front) (call_is (depth - 1) called values turns)
+
+      pub call_names_none : finish_parts items called ≡ None → lists ≡ Ends Stuck
+      call_names_none none = whole_is ∙ ap (λ o. behind front (by_parts (depth - 1) values o turns)) none
+
+      module _ (parts : List Field × List FinishStmt) (some : finish_parts items called ≡ Some parts) where
+        pub call_turnless : turns ≡ 0 → lists ≡ Ends (Fault fault.Turns)
+        call_turnless none = whole_is ∙ ap (λ o. behind front (by_parts (depth - 1) values o turns)) some
+            ∙ ap (λ turns. behind front (with_turn (stmts_listed items rows no_setting (depth - 1) parts.1 (bound_parameters (declared parts.0) values)) turns)) none
+
+        pub call_enters : (r : Result (Unit {0}) Stop) (now : List Change) (env : Env) (left last : ℕ) → turns ≡ left + 1 → env ≡ bound_parameters (declared parts.0) values
+            → Leaves r now last (behind front (stmts_listed items rows no_setting (depth - 1) parts.1 env left)) → Leaves r now last lists
+        call_enters r now env left last taken bound gives = leaves_as r now last _ _
+            (whole_is ∙ ap (λ o. behind front (by_parts (depth - 1) values o turns)) some
+            ∙ ap (λ turns. behind front (with_turn (stmts_listed items rows no_setting (depth - 1) parts.1 (bound_parameters (declared parts.0) values)) turns)) taken
+            ∙ ap (behind front) (turn_taken (stmts_listed items rows no_setting (depth - 1) parts.1 (bound_parameters (declared parts.0) values)) left)
+            ∙ ap (λ env. behind front (stmts_listed items rows no_setting (depth - 1) parts.1 env left)) (sym bound)) gives

@@ -106,7 +106,7 @@ fn act<'a, F: FactBase, P: Desk<F>, L: Ledger>(
     requires typed { AreTyped (P.policy desk.old) (F.rows facts.old) }
     requires goes { GoesWell (P.policy desk.old) (deed known.now setting.now s.now env.old) (F.rows facts.old) turns.old }
     ensures acts { Acts P.publishes (P.policy desk.old) result env.new (deed known.now setting.now s.now env.old) (standing desk.old (F.rows facts.old) turns.old steps.old) (standing desk.new (F.rows facts.new) turns.new steps.new) }
-    ensures kept { Keeps env.old env.new }
+    ensures kept { OnOk result (Keeps env.old env.new) }
     ensures keeps { P.keeps desk.old desk.new }
     ensures policy { P.policy desk.new ≡ P.policy desk.old }
 {
@@ -121,7 +121,8 @@ fn act<'a, F: FactBase, P: Desk<F>, L: Ledger>(
         }
         Stmt::If(x) => {
             let found = value_of(alloc, known, &*facts, setting, LONGEST, env, turns, &x.head);
-            if truth_of(found)? {
+            let holds = truth_of(found)?;
+            if holds {
                 act_block(alloc, known, setting, facts, desk, steps, env, turns, x.then.as_slice())
             } else {
                 act_else(alloc, known, setting, facts, desk, steps, env, turns, x)

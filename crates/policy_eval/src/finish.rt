@@ -1,16 +1,16 @@
 //! What `finish` lists. Nothing is written before all is listed.
 
-ghost use Rattle.std.specs.Prelude.{◌≡◌, IfOk};
+ghost use Rattle.std.specs.Prelude.{◌≡◌, option_map};
 ghost use Rattle.policy_expressions.specs.Answers.{Gives, Leaves};
 ghost use Rattle.policy_eval.specs.working.Listing.{behind, change_listed, finish_call, stmt_listed, stmts_listed};
-ghost use Rattle.policy_eval.specs.working.ListingSteps.{EntersFinish};
+ghost use Rattle.policy_eval.specs.working.ListingSteps.{finish_parts, finish_parts_of, kept_parts};
 ghost use Rattle.policy_rules.specs.Calls.{longest_chain};
 
 use crate::expressions::{bound_values, value_of, values_of, wanted_of};
 use crate::limits::LONGEST;
 use base_bytes::Values;
 use fact_store::FactBase;
-use policy_ast::{FinishStmt, Item, Name};
+use policy_ast::{Field, FinishStmt, Item, Name};
 use policy_expressions::{
     Answer, Change, Changes, Env, Known, Setting, Stop, create_of, delete_of, emit_of, push_change,
     take_turn, update_of,
@@ -75,11 +75,9 @@ fn list_one<'a, F: FactBase>(
             let values = values_of(alloc, known, facts, setting, LONGEST, env, turns, arguments.as_slice())?;
             list_call(alloc, known, facts, depth, turns, changes, name, values)
         }
-        FinishStmt::Create { .. }
-        | FinishStmt::Update { .. }
-        | FinishStmt::Delete { .. }
-        | FinishStmt::Emit(_) => {
-            push_change(changes, change(alloc, known, facts, setting, env, turns, s))
+        _ => {
+            let found = change(alloc, known, facts, setting, env, turns, s);
+            push_change(changes, found)
         }
     }
 }
@@ -106,29 +104,36 @@ fn list_all<'a, F: FactBase>(
     Ok(())
 }
 
-/// The body of the finish function of this name, which is entered with these values: a turn is taken, and its parameters are the names in scope.
-fn finish_entrance<'a>(
-    alloc: Global,
-    known: &Known<'a>,
-    turns: &mut u32,
-    name: &Name,
-    values: Values,
-    env: &mut Env<'a>,
-) -> Answer<&'a [FinishStmt]>
-    ensures { EntersFinish result known.now name.now values env.new turns.old turns.new }
+/// A finish function that is called: its parameters and its body.
+#[derive(Clone, Copy)]
+struct FinishCallee<'a> {
+    parameters: &'a [Field],
+    body: &'a [FinishStmt],
+}
+
+/// The item as a finish function.
+fn finish_parts_of<'a>(item: &'a Item) -> Option<FinishCallee<'a>>
+    ensures { option_map kept_parts result ≡ finish_parts_of item.now }
 {
-    let Some(item) = known.item_named(name) else {
-        return Err(Stop::Stuck);
-    };
-    let Item::FinishFunction {
-        parameters, body, ..
-    } = item
-    else {
-        return Err(Stop::Stuck);
-    };
-    take_turn(turns)?;
-    *env = Env::of_parameters(alloc, parameters.as_slice(), values)?;
-    Ok(body.as_slice())
+    match item {
+        Item::FinishFunction {
+            parameters, body, ..
+        } => Some(FinishCallee {
+            parameters: parameters.as_slice(),
+            body: body.as_slice(),
+        }),
+        _ => None,
+    }
+}
+
+/// The finish function of this name.
+fn finish_parts<'a>(known: &Known<'a>, name: &Name) -> Option<FinishCallee<'a>>
+    ensures { option_map kept_parts result ≡ finish_parts known.now name.now }
+{
+    match known.item_named(name) {
+        Some(item) => finish_parts_of(item),
+        None => None,
+    }
 }
 
 /// A call of a finish function. In it an expression knows its names alone.
@@ -148,9 +153,13 @@ fn list_call<'a, F: FactBase>(
     if depth == 0 {
         return Err(Stop::Stuck);
     }
-    let mut env = Env::new(alloc);
-    let body = finish_entrance(alloc, known, turns, name, values, &mut env)?;
+    let Some(callee) = finish_parts(known, name) else {
+        return Err(Stop::Stuck);
+    };
+    take_turn(turns)?;
+    let mut env = Env::of_parameters(alloc, callee.parameters, values)?;
     let setting = Setting::none();
+    let body = callee.body;
     list_all(alloc, known, facts, &setting, depth - 1, &mut env, turns, changes, body)
 }
 
