@@ -21,11 +21,11 @@ stops_then stop.NoMemory out next is = tt
 pub stops_by : {A : Type 0} (why : Stop) {out other : Out A} → other ≡ out → Stops why out → Stops why other
 stops_by why is stops = subst (λ o. Stops why o) (sym is) stops
 
-ends_too : {A B : Type 0} (why : Stop) (halt : Halt) → Stops {A = A} why (Ends halt) → Stops {A = B} why (Ends halt)
-ends_too stop.Check halt is = cc
-ends_too (stop.Fault kind) halt is = cc
-ends_too stop.Stuck halt is = cc
-ends_too stop.NoMemory halt is = tt
+ends_too : (A B : Type 0) (why : Stop) (halt : Halt) → Stops {A = A} why (Ends halt) → Stops {A = B} why (Ends halt)
+ends_too A B stop.Check halt is = cc
+ends_too A B (stop.Fault kind) halt is = cc
+ends_too A B stop.Stuck halt is = cc
+ends_too A B stop.NoMemory halt is = tt
 
 done_never : {A B : Type 0} (why : Stop) (x : A) (n : ℕ) (out : Out B) → Stops why (Done x n) → Stops why out
 done_never stop.Check x n out is = cc
@@ -36,12 +36,12 @@ done_never stop.NoMemory x n out is = tt
 -- What a value is looked up for: the whole stops where the look-up does, and goes on where it gives something.
 pub looked_stops : {A B C : Type 0} (why : Stop) (out : Out A) (look : A → Option B) (first : A → ℕ → Out C) → ((x : A) (n : ℕ) → look x ≡ None → first x n ≡ Ends Stuck)
     → Stops why (out >>= λ x n. or_stuck (look x) n) → Stops why (out >>= first)
-looked_stops {A} {B} {C} why (Ends halt) look first none is = ends_too {A = B} {B = C} why halt is
+looked_stops {A} {B} {C} why (Ends halt) look first none is = ends_too B C why halt is
 looked_stops {A} {B} {C} why (Done x n) look first none is = by (look x) refl is
   where
     by : (o : Option B) → look x ≡ o → Stops why (or_stuck o n) → Stops why (first x n)
     by (Some y) found is = done_never why y n (first x n) is
-    by None found is = stops_by why (none x n found) (ends_too {A = B} {B = C} why Stuck is)
+    by None found is = stops_by why (none x n found) (ends_too B C why Stuck is)
 
 pub looked_up : {A B C : Type 0} (y : B) (left : ℕ) (out : Out A) (look : A → Option B) (first : A → ℕ → Out C) (next : ℕ → Out C)
     → ((x : A) (n : ℕ) → look x ≡ Some y → first x n ≡ next n) → (out >>= λ x n. or_stuck (look x) n) ≡ Done y left → (out >>= first) ≡ next left

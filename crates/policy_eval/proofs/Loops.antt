@@ -107,15 +107,15 @@ module _ {A B : Type 0} (of : List A → Env → ℕ → Out (List B)) (one : A 
           (more_made p x (wrap c) lt is (parts before left ∙ ap (λ (out : Out C). out >>= λ c n. Done (wrap c) n) found ∙ ap (λ n. Done (wrap c) n) same) q.kept)
 
   -- It stops, or memory is wanting.
-  pub turn_stops : {C : Type 0} {all : List A} {before now after : Env} {turns left then' i : ℕ} {made other : List B} {found : Result C Stop} {part : Env → ℕ → Out C} (wrap : C → B) (why : Stop)
+  pub turn_stops : {C : Type 0} {all : List A} {before now after : Env} {turns left then' i : ℕ} {made : List B} {found : Result C Stop} {part : Env → ℕ → Out C} (wrap : C → B) (why : Stop)
       → SoFar of all before now turns left i made → (x : A) → i < length all → x ≡ get_or all i x → ((env : Env) (n : ℕ) → one x env n ≡ (part env n >>= λ c n. Done (wrap c) n))
-      → Evaluates found part now after left then' → ((n : ℕ) (out : Out C) → Gives found n out → Leaves {B = Unit {0}} (Err why) other n (out >>= λ c n. Done (made ++ wrap c ∷ []) n))
+      → Evaluates found part now after left then' → ((n : ℕ) (out : Out C) → Gives found n out → Stops why (out >>= λ c n. Done (made ++ wrap c ∷ []) n))
       → Evaluates (Err why) (of all) before after turns then'
-  turn_stops {C} {all} {before} {now} {after} {turns} {left} {then'} {i} {made} {other} {found} {part} wrap why p x lt is parts q adds =
+  turn_stops {C} {all} {before} {now} {after} {turns} {left} {then'} {i} {made} {found} {part} wrap why p x lt is parts q adds =
       record {
         gives =
             stops_by why (whole p x lt is ∙ ap (λ (out : Out B). out >>= λ y n. (of (drop (i + 1) all) before n >>= λ ys n. Done (y ∷ ys) n) >>= λ more n. Done (made ++ more) n) (parts before left))
-            (by why (part before left) (subst (λ env. Stops why (part env left >>= λ c n. Done (made ++ wrap c ∷ []) n)) p.kept (adds then' (part now left) q.gives)));
+            (ended why (part before left) (subst (λ env. Stops why (part env left >>= λ c n. Done (made ++ wrap c ∷ []) n)) p.kept (adds then' (part now left) q.gives)));
         kept = q.kept ∙ p.kept;
       }
     where
@@ -128,8 +128,6 @@ module _ {A B : Type 0} (of : List A → Env → ℕ → Out (List B)) (one : A 
       ended stop.Stuck (Ends halt) is = cc
       ended stop.NoMemory out is = tt
 
-      by : (why : Stop) (out : Out C) → Stops why (out >>= λ c n. Done (made ++ wrap c ∷ []) n) → Stops {A = List B} why ((out >>= λ c n. Done (wrap c) n) >>= λ y n. (of (drop (i + 1) all) before n >>= λ ys n. Done (y ∷ ys) n) >>= λ more n. Done (made ++ more) n)
-      by = ended
 
   -- A `?` stands in its place.
   pub gap_turns : {all : List A} {before now : Env} {turns left i : ℕ} {made more : List B} → SoFar of all before now turns left i made → (x : A) (y : B) → i < length all → x ≡ get_or all i x

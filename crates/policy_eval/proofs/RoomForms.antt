@@ -186,4 +186,6 @@ module _ (below : ℕ) where
 
 pub deeper : (items : List Item) (depth : ℕ) → 0 < depth → call_room items depth ≡ total (item_room (call_room items (depth - 1))) items + 2
 deeper items zero lt = absurd (omega arith)
-deeper items (suc depth) lt = refl
+deeper items (suc depth) lt =
+    let less : suc depth - 1 ≡ depth = omega arith in
+    ap (λ d. total (item_room (call_room items d)) items + 2) (sym less)

@@ -1,5 +1,5 @@
 -- What statements come to, by what was found of their parts one after the other.
-use Rattle.std.proofs.Common.{◌≡◌, ℕ, ◌+◌, ◌<◌, Bool, true, false, if◌then◌else◌, List, [], ◌∷◌, length, take, drop, get_or, Option, Some, None, Result, Ok, Err, refl, sym, ap, subst, ◌∙◌, arith}
+use Rattle.std.proofs.Common.{◌≡◌, ℕ, ◌+◌, ◌<◌, Bool, true, false, List, [], ◌∷◌, length, take, drop, get_or, Option, Some, None, Result, Ok, Err, refl, sym, ap, subst, ◌∙◌, arith}
 use Rattle.std.proofs.Math.Seq.{drop-length}
 use Rattle.base_bytes.specs.declared.value.Value.{Value}
 use Rattle.fact_store.specs.declared.row.Row.{Row}
@@ -105,7 +105,7 @@ module _ (does : Lists → Run) (before : Env) (turns : ℕ) where
     head_stops why tested =
         record {
           comes = λ lists.
-              stops_by why (is lists) (stops_then why (truth_of (says before turns)) (λ b n. if b then first lists n else second lists n) (tested between (says before turns) p.gives));
+              stops_by why (is lists) (stops_then why (truth_of (says before turns)) (λ b n. chosen (Done b n) (first lists) (second lists)) (tested between (says before turns) p.gives));
           kept = keeps_same before middle p.kept;
         }
 

@@ -56,12 +56,13 @@ pub fn check_flow<'a>(found: Answer<Value>) -> Answer<Flow<'a>>
 pub fn return_flow<'a>(found: Answer<Value>) -> Answer<Flow<'a>>
     ensures { (lists : List FinishStmt → Listing) (env behind : Env) (turns : ℕ) (out : Out Value) → Gives found turns out → Comes result lists env turns (return_of behind out) }
 {
-    Ok(Flow::Returns(found?))
+    let value = found?;
+    Ok(Flow::Returns(value))
 }
 
 /// The value that the statements of a function return. No `finish` stands in them.
 pub fn returned(flow: Answer<Flow<'_>>) -> Answer<Value>
-    ensures { (env : Env) (turns : ℕ) (out : Out Ran) → Comes flow no_listing env turns out → Gives result turns (value_returned out) }
+    ensures { (env : Env) (turns : ℕ) (out : Out Ran) → Comes flow.entry no_listing env turns out → Gives result turns (value_returned out) }
 {
     match flow? {
         Flow::Returns(value) => Ok(value),
@@ -71,7 +72,7 @@ pub fn returned(flow: Answer<Flow<'_>>) -> Answer<Value>
 
 /// A block ends: where the statements behind it go on, the names behind the first `outside` are forgotten.
 pub fn block_end<'a>(env: &mut Env<'a>, outside: usize, flow: Answer<Flow<'a>>) -> Answer<Flow<'a>>
-    ensures { (does : (List FinishStmt → Listing) → Run) (before : Env) (turns left : ℕ) → outside ≡ length before → Runs flow does before env.old turns left
+    ensures { (does : (List FinishStmt → Listing) → Run) (before : Env) (turns left : ℕ) → outside ≡ length before → Runs flow.entry does before env.old turns left
         → Runs result (λ lists. within (does lists)) before env.new turns left }
 {
     if !goes(&flow) {

@@ -1,5 +1,5 @@
 -- What each form of expression means: one equation a form, over names that stay shut.
-use Rattle.std.proofs.Common.{◌≡◌, ℕ, ℤ, suc, ◌<◌, ◌-◌, Bool, true, false, List, [], ◌∷◌, map, Option, Some, None, option_map, refl, sym, ap, ◌∙◌, arith}
+use Rattle.std.proofs.Common.{◌≡◌, ℕ, ℤ, suc, Bool, true, false, List, [], ◌∷◌, map, Option, Some, None, option_map, refl, ap, ◌∙◌}
 use Rattle.base_bytes.specs.declared.value.Value.{Value}
 use Rattle.base_bytes.specs.declared.value.Value.TheVariants as value
 use Rattle.fact_store.specs.declared.row.Row.{Row}
@@ -21,8 +21,8 @@ use Rattle.policy_ast.specs.declared.item.Item.{Item}
 use Rattle.policy_ast.specs.declared.literal.Literal.{Literal}
 use Rattle.policy_ast.specs.declared.pattern.Free.{Free}
 use Rattle.policy_ast.specs.declared.pattern.Pattern.{Pattern}
-use Rattle.policy_meaning.specs.Environments.{Env, Setting, bound, foreign_value, literal_value, name_value, no_setting, with_value}
-use Rattle.policy_meaning.specs.Expressions.{Meaning, block_meaning, decided, else_meaning, introduced, meaning, meaning_layer, struct_value}
+use Rattle.policy_meaning.specs.Environments.{Env, Setting, foreign_value, literal_value, name_value, no_setting, with_value}
+use Rattle.policy_meaning.specs.Expressions.{Meaning, block_meaning, decided, else_meaning, introduced, meaning, meaning_layer}
 use Rattle.policy_meaning.specs.Functions.{called, entered, no_listing}
 use Rattle.policy_meaning.specs.Outcomes.{Done, Ends, Out, ◌>>=◌, all_in_order, branch, or_stuck}
 use Rattle.policy_meaning.specs.Patterns.{wanted}

@@ -3,3 +3,4 @@ pub mod StatementMeanings
 mod NumberFacts
 mod VariantFacts
 mod FieldFacts
+mod ChangeFacts

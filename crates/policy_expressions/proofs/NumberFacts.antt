@@ -1,11 +1,14 @@
 -- Numbers: what fits 64 bits, and what counts of rows answer where counting stops early.
-use Rattle.std.proofs.Common.{◌≡◌, ℕ, ℤ, pos, negsuc, ◌+◌, ◌<◌, ◌≤◌, ◌^◌, Bool, true, false, ◌==◌, min, nat_le, List, [], ◌∷◌, length, slice_get, Option, Some, None, refl, sym, ap, ◌∙◌, arith}
+use Rattle.std.proofs.Common.{◌≡◌, ℕ, ℤ, pos, negsuc, ◌+◌, ◌<◌, ◌^◌, Bool, true, false, ◌==◌, min, nat_le, List, [], ◌∷◌, length, slice_get, Option, Some, None, option_map, Result, Ok, Err, IfOk, refl, sym, ap, subst, ◌∙◌, arith}
 use Rattle.std.specs.Int.{w64}
 use Rattle.std.specs.Int.RustNames.{FitsSigned}
-use Rattle.std.specs.Option.{is_some}
-use Rattle.std.proofs.lemmas.Bool.{false≢true, eqb-true, eq-eqb, leb-true, le-leb, ltb-true, lt-ltb}
+use Rattle.std.specs.Option.{SomeIff, is_some}
+use Rattle.std.proofs.lemmas.Bool.{eqb-true, eq-eqb, leb-true, le-leb, ltb-true, lt-ltb}
 use Rattle.std.proofs.lemmas.Int.{ints}
 use Rattle.base_bytes.specs.Values.{fits_int}
+use Rattle.base_bytes.specs.declared.value.Value.{Value}
+use Rattle.base_bytes.specs.declared.value.Value.TheVariants as value
+use Rattle.policy_meaning.specs.Values.{in_range, optional_of}
 
 signed : (z : ℤ) → fits_int z ≡ true → FitsSigned w64 z
 signed (pos n) is = let lt : n < 2 ^ 63 = ltb-true _ _ is in omega (arith, ints)
@@ -52,3 +55,9 @@ up_to limit rows = omega arith
 pub one_counted : {A : Type 0} (rows : List A) → (min 1 (length rows) == 1) ≡ is_some (slice_get rows 0)
 one_counted [] = refl
 one_counted (row ∷ rows) = eq-eqb _ _ (omega arith)
+
+-- a checked result is there exactly where it is in range
+pub in_range_by : {E : Type 0} (r : Result Value E) (o : Option ℤ) (z : ℤ) {seen : ℤ} → seen ≡ z → IfOk r (λ v. v ≡ optional_of (option_map value.Int o)) → SomeIff o (FitsSigned w64 seen) seen → IfOk r (λ v. v ≡ in_range z)
+in_range_by (Err e) o z same is there = tt
+in_range_by (Ok v) None z same is there = is ∙ sym (rw (fits_not z (λ fits. there (subst (FitsSigned w64) (sym same) fits))) refl)
+in_range_by (Ok v) (Some x) z same is there = is ∙ ap (λ n. value.Some (value.Int n)) (there.1 ∙ same) ∙ sym (rw (fits_signed z (subst (FitsSigned w64) same there.0)) refl)

@@ -6,7 +6,6 @@ use Rattle.policy_ast.specs.declared.expr.Expr.{Expr}
 use Rattle.policy_ast.specs.declared.expr.Let.{Let}
 use Rattle.policy_ast.specs.declared.finish.FinishStmt.{FinishStmt}
 use Rattle.policy_ast.specs.declared.item.Item.{Item}
-use Rattle.policy_ast.specs.declared.pattern.ArmPattern.{ArmPattern}
 use Rattle.policy_ast.specs.declared.pattern.Pattern.{Pattern}
 use Rattle.policy_ast.specs.declared.statement.Arm.{Arm}
 use Rattle.policy_ast.specs.declared.statement.Else.{Else}
@@ -23,7 +22,7 @@ use Rattle.policy_meaning.specs.Environments.{Env, Setting, with_value}
 use Rattle.policy_meaning.specs.Expressions.{Meaning, meaning}
 use Rattle.policy_meaning.specs.Finish.{Listing}
 use Rattle.policy_meaning.specs.Functions.{called}
-use Rattle.policy_meaning.specs.Outcomes.{Check, Done, Ends, Out, Stuck, ◌>>=◌, branch}
+use Rattle.policy_meaning.specs.Outcomes.{Done, Ends, Out, Stuck, ◌>>=◌}
 use Rattle.policy_meaning.specs.Statements.{Finishes, Goes, Ran, Returns, Run, arm_run, block, checked, else_run, ran, run, run_layer, within}
 use Rattle.policy_meaning.specs.Values.{truth}
 use Rattle.policy_rules.proofs.Folds.{fold-stmt-Let, fold-stmt-Check, fold-stmt-If, fold-stmt-Match, fold-stmt-Finish, fold-stmt-Map, fold-stmt-Publish, fold-stmt-Return}

@@ -30,7 +30,7 @@ abbrev pub AppliesAll : Result (List Effect) Stop → List Change → List Row �
 AppliesAll (Ok effects) changes old new = applied changes old ≡ Passes new effects
 AppliesAll (Err why) changes old new = EndsBlock why (applied changes old)
 
--- A write was made, or the block ends with it, whatever would follow.
-abbrev pub AppliesWrite : {A : Type 0} → Result A Stop → Outcome → List Row → Type 0
-AppliesWrite (Ok done) outcome new = outcome ≡ Ok new
-AppliesWrite (Err why) outcome new = (next : List Row → Ended) → EndsBlock why (written outcome next)
+-- A write was made, or the rows are as they were and the block ends with it, whatever would follow.
+abbrev pub AppliesWrite : {A : Type 0} → Result A Stop → Outcome → List Row → List Row → Type 0
+AppliesWrite (Ok done) outcome old new = outcome ≡ Ok new
+AppliesWrite (Err why) outcome old new = (new ≡ old) × ((next : List Row → Ended) → EndsBlock why (written outcome next))

@@ -6,3 +6,4 @@ pub mod Meant
 pub mod Views
 pub mod Changes
 pub mod Policies
+pub mod working

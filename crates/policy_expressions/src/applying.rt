@@ -1,6 +1,6 @@
 //! What writes make of the facts.
 
-ghost use Rattle.std.specs.Prelude.{List};
+ghost use Rattle.std.specs.Prelude.{◌≡◌, List, OnErr};
 ghost use Rattle.fact_store.specs.Writes.{Outcome, Writes};
 ghost use Rattle.fact_store.specs.declared.row.Row.{Row};
 ghost use Rattle.policy_meaning.specs.Finish.{Change as Meant};
@@ -14,7 +14,7 @@ use std::alloc::Global;
 
 /// A write that isn't possible is a fault.
 fn written(found: Result<(), WriteFault>) -> Answer<()>
-    ensures { (outcome : Outcome) (old new : List Row) → Writes outcome old found new → AppliesWrite result outcome new }
+    ensures { (outcome : Outcome) (old new : List Row) → Writes outcome old found new → AppliesWrite result outcome old new }
 {
     match found {
         Ok(()) => Ok(()),
@@ -32,7 +32,9 @@ pub fn apply<F: FactBase>(
     facts: &mut F,
     effects: &mut Effects,
 ) -> Answer<()>
-    ensures { (more : List Meant) → Applies result change (F.rows facts.old) (F.rows facts.new) effects.old effects.new more }
+    ensures applies { (more : List Meant) → Applies result change (F.rows facts.old) (F.rows facts.new) effects.old effects.new more }
+    ensures rows { OnErr result (F.rows facts.new ≡ F.rows facts.old) }
+    ensures effects { OnErr result (effects.new ≡ effects.old) }
 {
     match change.into_listed() {
         Listed::Create(row) => written(facts.create(alloc, row)),
@@ -50,5 +52,20 @@ pub fn apply_all<F: FactBase>(alloc: Global, changes: Changes, facts: &mut F) ->
     for change in changes.into_vec() {
         apply(alloc, change, facts, &mut effects)?;
     }
+    Ok(effects)
+}
+
+/// Makes all changes in order, and answers the effects. After any other answer the facts are as they were.
+pub fn apply_or_leave<F: FactBase>(
+    alloc: Global,
+    changes: Changes,
+    facts: &mut F,
+) -> Answer<Effects>
+    ensures ends { AppliesAll result changes (F.rows facts.old) (F.rows facts.new) }
+    ensures rows { OnErr result (F.rows facts.new ≡ F.rows facts.old) }
+{
+    let mut changed = facts.copy(alloc)?;
+    let effects = apply_all(alloc, changes, &mut changed)?;
+    *facts = changed;
     Ok(effects)
 }

@@ -1,18 +1,19 @@
 //! Which arm of a `match` takes a value.
 
-ghost use Rattle.std.specs.Prelude.{◌≡◌};
+ghost use Rattle.std.specs.Prelude.{◌≡◌, ◌==◌, ℕ, false, option_map, position, unwrap_or, IsTrue};
 ghost use Rattle.std.specs.List.{list_any};
 ghost use Rattle.std.specs.Option.{option_copied};
+ghost use Rattle.std.specs.Str.{bytes_eq};
 ghost use Rattle.base_bytes.specs.declared.value.Value.TheVariants as written;
 ghost use Rattle.fact_store.specs.Sameness.{same_value};
 ghost use Rattle.policy_meaning.specs.Arms.{first_body, is_value, listed_value, takes};
-ghost use Rattle.policy_meaning.specs.Environments.{literal_value};
+ghost use Rattle.policy_meaning.specs.Environments.{literal_value, variant_value};
+ghost use Rattle.policy_rules.specs.FieldLists.{are_distinct};
 
 use crate::known::Known;
-use crate::operators::is_equal;
-use crate::values::variant_value;
 use base_bytes::{Text, Value};
-use policy_ast::{Arm, ArmPattern, Literal, PatternLiteral, Stmt};
+use policy_ast::{Arm, ArmPattern, Literal, Name, PatternLiteral, Stmt};
+use sqlite_items::at;
 
 fn is_number(value: &Value, number: i64) -> bool
     ensures { result ≡ same_value (written.Int number) value.now }
@@ -47,12 +48,39 @@ fn is_nothing(value: &Value) -> bool
     matches!(value, Value::Nothing)
 }
 
-/// Whether the value is this one, where there is one.
-fn is_value(value: &Value, other: Option<Value>) -> bool
-    ensures { result ≡ is_value value.now other }
+/// The ordinal of a value of the enum of this number.
+fn ordinal_in(value: &Value, number: u32) -> Option<u16>
+    ensures { (k : ℕ) → same_value (written.Enum number k) value.now ≡ unwrap_or (option_map (λ ordinal. k == ordinal) result) false }
 {
-    match other {
-        Some(other) => is_equal(&other, value),
+    match value {
+        Value::Enum(own, ordinal) if *own == number => Some(*ordinal),
+        _ => None,
+    }
+}
+
+/// Whether the variant has this ordinal. It is looked at there alone.
+fn has_ordinal(variants: &[Name], variant: &Name, ordinal: u16) -> bool
+    requires distinct { IsTrue (are_distinct variants.now) }
+    ensures { result ≡ unwrap_or (option_map (λ place. place == ordinal) (position (bytes_eq variant.now) variants.now)) false }
+{
+    match at(variants, ordinal as usize) {
+        Some(own) => *variant == *own,
+        None => false,
+    }
+}
+
+/// Whether the value is `name::variant`.
+fn is_variant(known: &Known<'_>, value: &Value, name: &Name, variant: &Name) -> bool
+    ensures { result ≡ is_value value.now (variant_value known.now name.now variant.now) }
+{
+    match known.number_named(name) {
+        Some(number) => match known.variants_named(name) {
+            Some(variants) => match ordinal_in(value, number) {
+                Some(ordinal) => has_ordinal(variants, variant, ordinal),
+                None => false,
+            },
+            None => false,
+        },
         None => false,
     }
 }
@@ -66,7 +94,7 @@ fn is_literal(known: &Known<'_>, value: &Value, literal: &Literal) -> bool
         Literal::Text(text) => is_text(value, text),
         Literal::True => is_truth(value, true),
         Literal::False => is_truth(value, false),
-        Literal::Variant(name, variant) => is_value(value, variant_value(known, name, variant)),
+        Literal::Variant(name, variant) => is_variant(known, value, name, variant),
     }
 }
 

@@ -1,6 +1,7 @@
-ghost use Rattle.std.specs.Prelude.{◌≡◌, ◌<◌, ◌^◌, length, map, IfOk, IfSome};
+ghost use Rattle.std.specs.Prelude.{◌≡◌, ◌<◌, ◌^◌, length, map, IfOk, IfSome, IsTrue};
 ghost use Rattle.std.specs.Option.{option_copied};
 ghost use Rattle.policy_expressions.specs.Policies.{AreItems, names_at};
+ghost use Rattle.policy_rules.specs.FieldLists.{are_distinct};
 ghost use Rattle.policy_rules.specs.Heads.{enum_named};
 ghost use Rattle.policy_rules.specs.Names.{item_named, number_named};
 ghost use Rattle.policy_rules.specs.WellTyped.{items_of};
@@ -42,6 +43,7 @@ impl<'a> Known<'a> {
         ensures { IfOk result (λ known. known ≡ items_of checked.now) }
     {
         let policy = checked.policy();
+        let _items = policy.items();
         let heads = Heads::new(alloc, policy)?;
         Ok(Known { heads })
     }
@@ -65,10 +67,11 @@ impl<'a> Known<'a> {
         }
     }
 
-    /// The variants of the enum that a name means. An ordinal has 16 bits.
+    /// The variants of the enum that a name means. They are distinct, and an ordinal has 16 bits.
     pub fn variants_named(&self, name: &Name) -> Option<&'a [Name]>
         ensures variants { option_copied result ≡ enum_named self.now name.now }
         ensures few { IfSome result (λ variants. length variants.now < 2 ^ 16) }
+        ensures distinct { IfSome result (λ variants. IsTrue (are_distinct variants.now)) }
     {
         self.heads.enum_named(name)
     }

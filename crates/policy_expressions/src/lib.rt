@@ -17,7 +17,7 @@ mod stop;
 mod structs;
 mod values;
 
-pub use applying::{apply, apply_all};
+pub use applying::{apply, apply_all, apply_or_leave};
 pub use arms::first_body;
 pub use change::{Change, Changes};
 pub use changes::{create_of, delete_of, emit_of, update_of};

@@ -1,12 +1,14 @@
 //! What each operation makes of the values of its operands. An operand that ended early ends the operation so.
 
-ghost use Rattle.std.specs.Prelude.{◌≡◌, ℕ, ℤ, option_map};
+ghost use Rattle.std.specs.Prelude.{◌≡◌, ℕ, option_map, IfOk};
 ghost use Rattle.base_bytes.specs.declared.value.Value.{Value};
+ghost use Rattle.base_bytes.specs.declared.value.Value.TheVariants as value;
 ghost use Rattle.fact_store.specs.Sameness.{same_value};
 ghost use Rattle.policy_meaning.specs.Outcomes.{Out};
-ghost use Rattle.policy_meaning.specs.Values.{calculated, compared, is_present, number, optional_parts, truth};
+ghost use Rattle.policy_meaning.specs.Values.{calculated, compared, number, optional_of};
 ghost use Rattle.policy_expressions.specs.Answers.{Gives};
 ghost use Rattle.policy_expressions.specs.Forms.{calculation_of, check_of, compare_of, presence_of, some_of, truth_of, unary_of};
+ghost use Rattle.policy_expressions.specs.working.Orders.{order_of};
 
 use crate::stop::{Answer, Stop};
 use base_bytes::{NoMemory, Value};
@@ -78,23 +80,25 @@ pub fn some_of(alloc: Global, found: Answer<Value>) -> Answer<Value>
 }
 
 /// The number that a value is.
-fn number(value: &Value) -> Option<i64>
-    ensures { result ≡ number value.now }
+fn number(of: &Value) -> Option<i64>
+    ensures { result ≡ number of.now }
 {
-    match value {
+    match of {
         Value::Int(number) => Some(*number),
         _ => None,
     }
 }
 
-pub(crate) fn is_equal(value: &Value, other: &Value) -> bool
-    ensures { result ≡ same_value value.now other.now }
+fn is_equal(first: &Value, second: &Value) -> bool
+    ensures { result ≡ same_value first.now second.now }
 {
-    value.is_same(other)
+    first.is_same(second)
 }
 
 /// Whether two numbers are in this order, and false of the comparisons that are none.
-fn is_in_order(op: Comparison, m: i64, n: i64) -> bool {
+fn is_in_order(op: Comparison, m: i64, n: i64) -> bool
+    ensures { result ≡ order_of op m n }
+{
     match op {
         Comparison::Equal | Comparison::NotEqual => false,
         Comparison::Less => m < n,
@@ -130,7 +134,9 @@ pub fn compare_of(op: Comparison, first: Value, second: Answer<Value>) -> Answer
 }
 
 /// An optional number: `Some` of it where the operation stayed in range.
-fn optional(alloc: Global, number: Option<i64>) -> Result<Value, NoMemory> {
+fn optional(alloc: Global, number: Option<i64>) -> Result<Value, NoMemory>
+    ensures { IfOk result (λ v. v ≡ optional_of (option_map value.Int number)) }
+{
     match number {
         Some(number) => Ok(Value::Some(Boxed::new(alloc, Value::Int(number))?)),
         None => Ok(Value::Nothing),
@@ -138,7 +144,7 @@ fn optional(alloc: Global, number: Option<i64>) -> Result<Value, NoMemory> {
 }
 
 fn calculated(alloc: Global, op: Arithmetic, m: i64, n: i64) -> Result<Value, NoMemory>
-    ensures { (v : Value) → result ≡ Ok v → v ≡ calculated op m n }
+    ensures { IfOk result (λ v. v ≡ calculated op m n) }
 {
     match op {
         Arithmetic::Add => optional(alloc, m.checked_add(n)),

@@ -55,11 +55,7 @@ fn limit_of(limit: i64) -> Option<u64>
     ensures limit { result ≡ limit_of limit }
     ensures small { IfSome result (λ limit. limit < 2 ^ 63) }
 {
-    if limit < 0 {
-        None
-    } else {
-        Some(limit as u64)
-    }
+    if limit < 0 { None } else { Some(limit as u64) }
 }
 
 /// How far rows are counted: one further than the limit only where the answer depends on it.

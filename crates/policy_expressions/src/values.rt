@@ -38,7 +38,7 @@ fn enum_value(number: u32, variants: &[Name], variant: &Name) -> Option<Value>
 }
 
 /// `name::variant`
-pub(crate) fn variant_value(known: &Known<'_>, name: &Name, variant: &Name) -> Option<Value>
+fn variant_value(known: &Known<'_>, name: &Name, variant: &Name) -> Option<Value>
     ensures { result ≡ variant_value known.now name.now variant.now }
 {
     match known.number_named(name) {

@@ -3,19 +3,15 @@ use Rattle.std.specs.Prelude.{◌≡◌, ℕ, Bool, true, false, List, length, O
 use Rattle.std.specs.Borrow.{Bor}
 use Rattle.base_bytes.specs.declared.value.Value.{Value}
 use Rattle.policy_ast.specs.declared.finish.FinishStmt.{FinishStmt}
-use Rattle.policy_ast.specs.declared.item.Item.{Item}
 use Rattle.policy_ast.specs.declared.statement.Stmt.{Stmt}
 use Rattle.policy_eval.specs.declared.flow.Flow.{Flow}
 use Rattle.policy_eval.specs.declared.flow.Flow.TheVariants as flow
-use Rattle.policy_eval.specs.working.Rooms.{IsBodyOf}
 use Rattle.policy_expressions.specs.Answers.{Gives, Keeps, Stops}
 use Rattle.policy_expressions.specs.declared.stop.Stop.{Stop}
 use Rattle.policy_meaning.specs.Environments.{Env}
 use Rattle.policy_meaning.specs.Finish.{Listing}
-use Rattle.policy_meaning.specs.Functions.{entered, returned}
 use Rattle.policy_meaning.specs.Outcomes.{Out, Done, ◌>>=◌}
 use Rattle.policy_meaning.specs.Statements.{Finishes, Goes, Ran, Returns, Run, ran}
-use Rattle.policy_rules.specs.Names.{Name, item_named}
 
 -- A call answered what an evaluation gives, and left the names in scope as they were.
 pub record Evaluates {A : Type 0} (result : Result A Stop) (means : Env → ℕ → Out A) (before after : Env) (turns left : ℕ) : Type 0 where
@@ -51,9 +47,3 @@ goes_on (Err why) = false
 abbrev pub GivesBody : Result (Bor (List Stmt)) Stop → ℕ → Out (List Stmt) → Type 0
 GivesBody (Ok body) left out = out ≡ Done body.now left
 GivesBody (Err why) left out = Stops why out
-
--- A function of this name is entered with these values: its body is to run with these names, or there is a reason why not.
-abbrev pub Enters : Result (Bor (List Stmt)) Stop → List Item → Name → List Value → Env → ℕ → ℕ → Type 0
-Enters (Ok body) items name values env turns left =
-    ((next : List Stmt → Run) → entered next values (item_named items name) turns ≡ (next body.now env left >>= λ r turns. returned r.flow turns)) × IsBodyOf items body.now
-Enters (Err why) items name values env turns left = (next : List Stmt → Run) → Stops why (entered next values (item_named items name) turns)

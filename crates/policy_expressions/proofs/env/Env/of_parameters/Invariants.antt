@@ -1,6 +1,5 @@
 use Rattle.std.proofs.Common.{◌≡◌, ◌++◌, drop}
-use Rattle.policy_meaning.specs.Environments.{bound, bound_parameters}
-use Rattle.policy_rules.specs.Scopes.{names_in}
+use Rattle.policy_meaning.specs.Environments.{bound_parameters}
 use Rattle.policy_rules.specs.Types.{declared}
 use Rattle.policy_expressions.proofs.env.Env.of_parameters.Given as goal
 

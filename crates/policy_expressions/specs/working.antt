@@ -1,0 +1,2 @@
+-- What private calls are shown by.
+pub mod Orders
