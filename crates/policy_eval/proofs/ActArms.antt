@@ -22,19 +22,20 @@ use Rattle.policy_expressions.specs.Forms.{check_of, one_named, truth_of}
 use Rattle.policy_expressions.specs.Meant.{meant, wanted_meant}
 use Rattle.policy_expressions.specs.declared.stop.Stop.{Stop as Halted}
 use Rattle.policy_expressions.specs.declared.stop.Stop.TheVariants as stop
-use Rattle.policy_meaning.specs.Actions.{Brought, Deed, Did, Stops, Stop, Halts, Asks, World, ◌>>>◌, each_row, inside, published, told, with_turns}
+use Rattle.policy_meaning.specs.Actions.{Brought, Deed, Did, Stops, Stop, Halts, Asks, World, ◌>>>◌, each_row, after_answer, inside, published, told, with_turns}
 use Rattle.policy_meaning.specs.Arms.{first_body}
-use Rattle.policy_meaning.specs.Desks.{Posting}
+use Rattle.policy_meaning.specs.Desks.{Posting, Publishes, Stay}
 use Rattle.policy_meaning.specs.Environments.{Env, Setting, with_value}
 use Rattle.policy_meaning.specs.Outcomes.{Stuck, Out, Done, Ends, ◌>>=◌, or_stuck}
 use Rattle.policy_meaning.specs.Typed.{AreTyped, IsCommandOf}
 use Rattle.policy_meaning.specs.Values.{struct_parts}
+use Rattle.policy_meaning.specs.declared.ends.Posted.{Posted}
 use Rattle.policy_rules.specs.Calls.{longest_chain}
 use Rattle.policy_rules.specs.Names.{Name}
 use Rattle.policy_types.specs.ActsWell.{IsCommand}
 use Rattle.policy_eval.proofs.ActionLoops.{keeps_all}
 use Rattle.policy_eval.proofs.ActForms.{acts_all, begins, check_told, choice_told, fails, leaves, let_told, rows_told}
-use Rattle.policy_eval.proofs.ActingFacts.{acted_still, acted_then, goes_from, goes_into}
+use Rattle.policy_eval.proofs.ActingFacts.{acted_publish, acted_still, acted_then, goes_from, goes_into}
 use Rattle.policy_eval.proofs.DeedForms.{check_is, choice_is, finish_is, let_is, map_is, match_is, publish_is, return_is}
 use Rattle.policy_eval.specs.declared.cause.Cause.{Cause}
 use Rattle.policy_eval.specs.declared.cause.Cause.TheVariants as cause
@@ -263,6 +264,22 @@ module _ {D : Type 0} (publishes : D → List Row → Posting → D → Type 0) 
   pub return_sticks : (e : Expr) → s ≡ stmt.Return e → StopsFor publishes policy (halted stop.Stuck) does start start
   return_sticks e is = acted_still publishes policy does (Stops (Halts Stuck)) desk rows turns turns ticks typed
       (λ left made. ap settled (ap (λ s. deed items setting s env (world rows left made turns)) is ∙ return_is items setting env (world rows left made turns) e))
+
+-- ---- what the desk answers
+
+module _ {D : Type 0} (publishes : D → List Row → Posting → D → Type 0) (policy : List PlacedItem) where
+  pub posted_on : (o : Option (ℕ × List Value)) (command : ℕ) (fields : List Value) → o ≡ Some (command, fields) → (posted told : Posted) → posted ≡ told → (old new : D) (rows last : List Row) (before now : ℕ)
+      → Publishes publishes old rows command fields posted before now new last → Stay posted rows last → AreTyped policy last → (turns : ℕ)
+      → Acted publishes policy (published o) (after_answer told) (standing old rows turns before) (standing new last turns now)
+  posted_on o command fields is posted told same old new rows last before now publishes_so stays typed turns =
+      subst (λ told. Acted publishes policy (published o) (after_answer told) (standing old rows turns before) (standing new last turns now)) same
+      (subst (λ o. Acted publishes policy (published o) (after_answer posted) (standing old rows turns before) (standing new last turns now)) (sym is)
+      (acted_publish publishes policy command fields posted (standing old rows turns before) (standing new last turns now) publishes_so stays typed refl))
+
+  pub parts_stick : (o : Option (ℕ × List Value)) → o ≡ None → (desk : D) (rows : List Row) (turns ticks : ℕ) → AreTyped policy rows
+      → Acted publishes policy (published o) (Stops (Halts Stuck)) (standing desk rows turns ticks) (standing desk rows turns ticks)
+  parts_stick o none desk rows turns ticks typed = acted_still publishes policy (published o) (Stops (Halts Stuck)) desk rows turns turns ticks typed
+      (λ left made. ap (λ o. settled (published o (world rows left made turns))) none)
 
 -- ---- names that are kept
 

@@ -1,8 +1,6 @@
 -- Lemmas of this crate.
 pub mod Evaluating
 pub mod Loops
-pub mod MeaningForms
-pub mod StatementForms
 pub mod RoomForms
 pub mod Running
 pub mod Flows

@@ -19,7 +19,7 @@ ghost use Rattle.policy_eval.specs.working.Steps.{body_of};
 use crate::cause::{Cause, caused};
 use crate::expressions::{value_of, wanted_of};
 use crate::limits::LONGEST;
-use base_bytes::{Steps, Value};
+use base_bytes::{Steps, Value, Values};
 use fact_store::{FactBase, Row, Wanted};
 use policy_ast::{Arm, Else, IfStmt, Name, Stmt};
 use policy_expressions::{
@@ -28,6 +28,16 @@ use policy_expressions::{
 use policy_meaning::{Desk, FaultKind, Posted};
 use std::alloc::Global;
 use std::sync::ledger::Ledger;
+
+/// The number and the fields of a struct.
+fn parts_of(value: Value) -> Option<(u32, Values)>
+    ensures { result ≡ struct_parts value }
+{
+    match value {
+        Value::Struct(item, fields) => Some((item, fields)),
+        _ => None,
+    }
+}
 
 /// Brings a command to the desk.
 fn publish<F: FactBase, P: Desk<F>, L: Ledger>(
@@ -43,7 +53,7 @@ fn publish<F: FactBase, P: Desk<F>, L: Ledger>(
     ensures keeps { P.keeps desk.old desk.new }
     ensures policy { P.policy desk.new ≡ P.policy desk.old }
 {
-    let Value::Struct(command, fields) = value else {
+    let Some((command, fields)) = parts_of(value) else {
         return Err(Cause::Stop(Stop::Stuck));
     };
     match desk.publish(alloc, command, fields, facts, steps)? {
@@ -142,7 +152,8 @@ fn act<'a, F: FactBase, P: Desk<F>, L: Ledger>(
             let value = value_of(alloc, known, &*facts, setting, LONGEST, env, turns, e)?;
             publish(alloc, facts, desk, steps, value)
         }
-        Stmt::Finish(_) | Stmt::Return(_) => Err(Cause::Stop(Stop::Stuck)),
+        Stmt::Finish(_) => Err(Cause::Stop(Stop::Stuck)),
+        Stmt::Return(_) => Err(Cause::Stop(Stop::Stuck)),
     }
 }
 
