@@ -4,3 +4,6 @@ mod NumberFacts
 mod VariantFacts
 mod FieldFacts
 mod ChangeFacts
+mod PlaceFacts
+mod DistinctFacts
+mod GapFacts

@@ -111,12 +111,14 @@ named_at names k name distinct = by ((slice_get_cases names k).1)
             let at = position-Some (bytes_eq name) names p [] is in
             let pk : p ≡ k = eqb-true p k same in
             absurd (false≢true (sym (differs (subst (λ n. n < length names) pk at.0)) ∙ subst (λ n. bytes_eq name (get_or names n []) ≡ true) pk at.1))
+
     inside : (x : Name) → k < length names → slice_get names k ≡ Some x → get_or names k x ≡ x → (b : Bool) → bytes_eq name x ≡ b
         → bytes_eq name x ≡ unwrap_or (option_map (λ p. p == k) (position (bytes_eq name) names)) false
     inside x lt there read true is =
         is ∙ sym (rw (placed names k name distinct lt (ap (bytes_eq name) (get_or_from_slice_get names k x [] there) ∙ is)) (eq-eqb k k refl))
     inside x lt there read false is =
         is ∙ other (position (bytes_eq name) names) refl (λ within. ap (bytes_eq name) (get_or_from_slice_get names k x [] there) ∙ is)
+
     by : ((x : Name) × (k < length names) × (slice_get names k ≡ Some x) × (get_or names k x ≡ x)) ⊎ ((length names ≤ k) × (slice_get names k ≡ None))
         → unwrap_or (option_map (bytes_eq name) (slice_get names k)) false ≡ unwrap_or (option_map (λ p. p == k) (position (bytes_eq name) names)) false
     by (inl there) = ap (λ o. unwrap_or (option_map (bytes_eq name) o) false) there.2 ∙ inside there.0 there.1 there.2 there.3 (bytes_eq name there.0) refl

@@ -1,2 +1,4 @@
 -- What private calls are shown by.
 pub mod Orders
+pub mod Places
+pub mod Gaps

@@ -34,10 +34,10 @@ pub fn create_of(
     let Some(fact_number) = known.number_named(fact) else {
         return Err(Stop::Stuck);
     };
-    let Some(head) = known.heads().fact_named(fact) else {
+    let Some(head) = known.fact_named(fact) else {
         return Err(Stop::Stuck);
     };
-    let Some(values) = values_in_order(alloc, head.values, binds, values.as_slice())? else {
+    let Some(values) = values_in_order(alloc, head.values, binds, values)? else {
         return Err(Stop::Stuck);
     };
     if !are_keys(keys.as_slice()) {
@@ -63,10 +63,10 @@ pub fn update_of(
     ensures { (turns : ℕ) (out : Out (List Value)) → Gives found turns out → Gives result turns (updated_of known.now fact.now old (bind_names binds.now) out) }
 {
     let values = found?;
-    let Some(head) = known.heads().fact_named(fact) else {
+    let Some(head) = known.fact_named(fact) else {
         return Err(Stop::Stuck);
     };
-    match values_in_order(alloc, head.values, binds, values.as_slice())? {
+    match values_in_order(alloc, head.values, binds, values)? {
         Some(values) => Ok(Change::update(old, values)),
         None => Err(Stop::Stuck),
     }

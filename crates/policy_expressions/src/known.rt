@@ -1,14 +1,16 @@
-ghost use Rattle.std.specs.Prelude.{◌≡◌, ◌<◌, ◌^◌, length, map, IfOk, IfSome, IsTrue};
+ghost use Rattle.std.specs.Prelude.{◌≡◌, ◌<◌, ◌^◌, length, map, option_map, IfOk, IfSome, IsTrue};
 ghost use Rattle.std.specs.Option.{option_copied};
 ghost use Rattle.policy_expressions.specs.Policies.{AreItems, names_at};
 ghost use Rattle.policy_rules.specs.FieldLists.{are_distinct};
-ghost use Rattle.policy_rules.specs.Heads.{enum_named};
+ghost use Rattle.policy_rules.specs.Heads.{enum_named, fact_named, struct_named};
 ghost use Rattle.policy_rules.specs.Names.{item_named, number_named};
+ghost use Rattle.policy_heads.specs.Views.{fact_view};
+ghost use Rattle.policy_rules.specs.Scopes.{names_in};
 ghost use Rattle.policy_rules.specs.WellTyped.{items_of};
 
 use base_bytes::NoMemory;
 use policy_ast::{Item, Name};
-use policy_heads::Heads;
+use policy_heads::{FactHead, Heads};
 use policy_rules::Named;
 use policy_types::Checked;
 use std::alloc::Global;
@@ -74,6 +76,22 @@ impl<'a> Known<'a> {
         ensures distinct { IfSome result (λ variants. IsTrue (are_distinct variants.now)) }
     {
         self.heads.enum_named(name)
+    }
+
+    /// The fields of the struct that a name means. Their names are distinct.
+    pub(crate) fn struct_named(&self, name: &Name) -> Option<&[Named]>
+        ensures fields { option_copied result ≡ struct_named self.now name.now }
+        ensures distinct { IfSome result (λ fields. IsTrue (are_distinct (names_in fields.now))) }
+    {
+        self.heads.struct_named(name)
+    }
+
+    /// What is known of the fact that a name means. Its values have distinct names.
+    pub(crate) fn fact_named(&self, name: &Name) -> Option<FactHead<'_>>
+        ensures fact { option_map fact_view result ≡ fact_named self.now name.now }
+        ensures distinct { IfSome result (λ head. IsTrue (are_distinct (names_in head.values.now))) }
+    {
+        self.heads.fact_named(name)
     }
 
     /// The fields of the item of this number, where it is a struct type.

@@ -1,6 +1,6 @@
 //! The rows that a pattern asks for, by the values of its expressions.
 
-ghost use Rattle.std.specs.Prelude.{◌≡◌, ℕ, List, Option, map, IfOk, IsTrue};
+ghost use Rattle.std.specs.Prelude.{◌≡◌, ℕ, List, Option, map, IfOk, IsTrue, OnOk};
 ghost use Rattle.std.specs.Option.{option_copied};
 ghost use Rattle.base_bytes.specs.KeyOrder.{is_key};
 ghost use Rattle.base_bytes.specs.declared.value.Value.{Value};
@@ -12,6 +12,7 @@ ghost use Rattle.policy_rules.specs.Expressions.{value_part};
 ghost use Rattle.policy_rules.specs.Scopes.{names_in};
 ghost use Rattle.policy_expressions.specs.Answers.{Gives};
 ghost use Rattle.policy_expressions.specs.Forms.{pattern_of};
+ghost use Rattle.policy_expressions.specs.working.Gaps.{put_front};
 
 use crate::known::Known;
 use crate::stop::{Answer, Stop};
@@ -44,18 +45,27 @@ pub(crate) fn are_keys(values: &[Value]) -> bool
     true
 }
 
-/// Copies of the values before the first `?`.
-fn before_gap(alloc: Global, values: &[Option<Value>]) -> Result<Values, NoMemory>
-    ensures { IfOk result (λ all. all ≡ before_gap values.now) }
+/// One more value in front of those behind it, which stand the last first. Behind a `?` none counts.
+fn put_front(behind: &mut Vec<Value>, value: Option<Value>) -> Result<(), NoMemory>
+    ensures { OnOk result (behind.new.items ≡ put_front behind.old.items value) }
 {
-    let mut all = Items::new(alloc);
-    for value in values {
-        match value {
-            Some(value) => all.push(value.copy(alloc)?)?,
-            None => return Ok(all),
-        }
+    match value {
+        Some(value) => behind.push(value)?,
+        None => behind.clear(),
     }
-    Ok(all)
+    Ok(())
+}
+
+/// The values before the first `?`.
+fn before_gap(alloc: Global, mut values: Items<Option<Value>>) -> Result<Values, NoMemory>
+    ensures { IfOk result (λ all. all ≡ before_gap values) }
+{
+    let mut behind = Vec::new(alloc);
+    while let Some(value) = values.pop() {
+        put_front(&mut behind, value)?;
+    }
+    behind.reverse();
+    Ok(Items::from_vec(behind))
 }
 
 /// The fields that a pattern names behind its keys.
@@ -129,7 +139,7 @@ pub fn pattern_of(
     let Some(head) = known.heads().fact_named(&pattern.fact) else {
         return Err(Stop::Stuck);
     };
-    let keys = before_gap(alloc, keys.as_slice())?;
+    let keys = before_gap(alloc, keys)?;
     if !are_keys(keys.as_slice()) {
         return Err(Stop::Stuck);
     }

@@ -1,13 +1,15 @@
 //! Fields of structs, and structs made of fields that are given by name.
 
-ghost use Rattle.std.specs.Prelude.{◌≡◌, ℕ, List, map, option_and_then, slice_get, IfOk};
+ghost use Rattle.std.specs.Prelude.{◌≡◌, ℕ, List, map, option_and_then, slice_get, IfOk, IsTrue};
 ghost use Rattle.std.specs.Option.{option_copied};
 ghost use Rattle.base_bytes.specs.declared.value.Value.{Value};
 ghost use Rattle.policy_meaning.specs.Environments.{bound, value_in};
 ghost use Rattle.policy_meaning.specs.Finish.{bind_names};
 ghost use Rattle.policy_meaning.specs.Outcomes.{Out};
 ghost use Rattle.policy_meaning.specs.Values.{in_order, value_named};
+ghost use Rattle.policy_rules.specs.FieldLists.{are_distinct};
 ghost use Rattle.policy_rules.specs.Scopes.{names_in};
+ghost use Rattle.policy_expressions.specs.working.Places.{are_same};
 ghost use Rattle.policy_expressions.specs.Answers.{Gives};
 ghost use Rattle.policy_expressions.specs.Forms.{field_of, struct_of};
 
@@ -87,7 +89,7 @@ fn value_bound<'a>(binds: &[Bind<Expr>], values: &'a [Value], name: &Name) -> Op
 }
 
 /// Copies of the values that are bound to the fields, in declared order.
-pub(crate) fn values_in_order(
+fn values_copied(
     alloc: Global,
     fields: &[Named],
     binds: &[Bind<Expr>],
@@ -105,6 +107,38 @@ pub(crate) fn values_in_order(
     Ok(Some(all))
 }
 
+/// Whether just the fields are bound, in declared order.
+fn are_in_place(fields: &[Named], binds: &[Bind<Expr>]) -> bool
+    ensures { result ≡ are_same (names_in fields.now) (bind_names binds.now) }
+{
+    match fields {
+        [] => match binds {
+            [] => true,
+            [_, ..] => false,
+        },
+        [field, fields @ ..] => match binds {
+            [] => false,
+            [bind, binds @ ..] => field.name == bind.name && are_in_place(fields, binds),
+        },
+    }
+}
+
+/// The values that are bound to the fields, in declared order. Values that stand so already are moved, others are copied.
+pub(crate) fn values_in_order(
+    alloc: Global,
+    fields: &[Named],
+    binds: &[Bind<Expr>],
+    values: Values,
+) -> Result<Option<Values>, NoMemory>
+    requires distinct { IsTrue (are_distinct (names_in fields.now)) }
+    ensures { IfOk result (λ found. found ≡ in_order (names_in fields.now) (bound (bind_names binds.now) values)) }
+{
+    if values.len() == fields.len() && are_in_place(fields, binds) {
+        return Ok(Some(values));
+    }
+    values_copied(alloc, fields, binds, values.as_slice())
+}
+
 /// A struct of the values that are bound to its fields, in any order.
 pub fn struct_of(
     alloc: Global,
@@ -119,10 +153,10 @@ pub fn struct_of(
     let Some(number) = known.number_named(name) else {
         return Err(Stop::Stuck);
     };
-    let Some(fields) = known.heads().struct_named(name) else {
+    let Some(fields) = known.struct_named(name) else {
         return Err(Stop::Stuck);
     };
-    match values_in_order(alloc, fields, binds, values.as_slice())? {
+    match values_in_order(alloc, fields, binds, values)? {
         Some(fields) => Ok(Value::Struct(number, fields)),
         None => Err(Stop::Stuck),
     }

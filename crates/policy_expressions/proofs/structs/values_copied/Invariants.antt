@@ -3,7 +3,7 @@ use Rattle.policy_meaning.specs.Environments.{bound}
 use Rattle.policy_meaning.specs.Finish.{bind_names}
 use Rattle.policy_meaning.specs.Values.{in_order}
 use Rattle.policy_rules.specs.Scopes.{names_in}
-use Rattle.policy_expressions.proofs.structs.values_in_order.Given as goal
+use Rattle.policy_expressions.proofs.structs.values_copied.Given as goal
 
 abbrev pub invariant-loop-field : goal.invariant-loop-field
 invariant-loop-field l =
