@@ -189,3 +189,71 @@ deeper items zero lt = absurd (omega arith)
 deeper items (suc depth) lt =
     let less : suc depth - 1 ≡ depth = omega arith in
     ap (λ d. total (item_room (call_room items d)) items + 2) (sym less)
+
+-- ---- each call falls
+
+pub only_falls : (a n : ℕ) → n ≡ a + 1 → a < n
+only_falls a n is = omega arith
+
+pub first_falls : (a b n : ℕ) → n ≡ a + b + 1 → a < n
+first_falls a b n is = omega arith
+
+pub second_falls : (a b n : ℕ) → n ≡ a + b + 1 → b < n
+second_falls a b n is = omega arith
+
+pub arguments_fall : (a b n : ℕ) → n ≡ a + b + 2 → a + 1 < n
+arguments_fall a b n is = omega arith
+
+pub call_falls : (a b n : ℕ) → n ≡ a + b + 2 → b + 1 < n
+call_falls a b n is = omega arith
+
+pub binds_fall : (a n : ℕ) → n ≡ a + 2 → a + 1 < n
+binds_fall a n is = omega arith
+
+pub head_falls : (a b c n : ℕ) → n ≡ a + b + c + 2 → a < n
+head_falls a b c n is = omega arith
+
+pub block_falls : (a b c n : ℕ) → n ≡ a + b + c + 2 → b < n
+block_falls a b c n is = omega arith
+
+pub else_falls : (a b c n : ℕ) → n ≡ a + b + c + 2 → c + 1 < n
+else_falls a b c n is = omega arith
+
+pub if_head_falls : (a b c n : ℕ) → n ≡ a + b + c + 3 → a < n
+if_head_falls a b c n is = omega arith
+
+pub if_body_falls : (a b c n : ℕ) → n ≡ a + b + c + 3 → b + 1 < n
+if_body_falls a b c n is = omega arith
+
+pub if_rest_falls : (a b c n : ℕ) → n ≡ a + b + c + 3 → c + 1 < n
+if_rest_falls a b c n is = omega arith
+
+pub match_head_falls : (a b n : ℕ) → n ≡ a + b + 3 → a < n
+match_head_falls a b n is = omega arith
+
+pub match_body_falls : (a b c n : ℕ) → c ≤ b → n ≡ a + b + 3 → c + 1 < n
+match_body_falls a b c n among is = omega arith
+
+pub item_falls : {A : Type 0} (f : A → ℕ) (xs : List A) (i : ℕ) (x : A) → i < length xs → x ≡ get_or xs i x → f x < total f xs + 1
+item_falls f xs i x lt is =
+    let le : f x ≤ total f xs = among f xs i x lt is in
+    omega arith
+
+pub gap_falls : (below : ℕ) (frees : List (Free Expr)) (i : ℕ) (f : Free Expr) (e : Expr) → i < length frees → f ≡ get_or frees i f → f.value ≡ Some e
+    → room below e < total (free_room below) frees + 1
+gap_falls below frees i f e lt is some =
+    let le : free_room below f ≤ total (free_room below) frees = among (free_room below) frees i f lt is in
+    let same : free_room below f ≡ room below e = ap (opt_room below) some in
+    omega arith
+
+pub let_falls : (below : ℕ) (b : ExprBlock Expr) (lets : List (Let Expr)) (i : ℕ) (l : Let Expr) → lets ≡ b.lets → i < length lets → l ≡ get_or lets i l
+    → room below l.value < total (let_room below) b.lets + room below b.value + 1
+let_falls below b lets i l seen lt is =
+    let le : room below l.value ≤ total (let_room below) lets = among (let_room below) lets i l lt is in
+    let same : total (let_room below) lets ≡ total (let_room below) b.lets = ap (total (let_room below)) seen in
+    omega arith
+
+pub body_falls : (items : List Item) (depth n : ℕ) → 0 < depth → n ≤ total (item_room (call_room items (depth - 1))) items → n + 1 < call_room items depth + 1
+body_falls items depth n lt le =
+    let is : call_room items depth ≡ total (item_room (call_room items (depth - 1))) items + 2 = deeper items depth lt in
+    omega arith

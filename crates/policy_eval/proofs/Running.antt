@@ -70,6 +70,13 @@ ended {r} {does} {before} {after} {last} {turns} {left} p goes stays = by r goes
           kept = subst (λ env. Keeps before env) (sym (stays refl)) kept;
         }
 
+pub ended_early : {r : Result Flow Stop} {does : Lists → Run} {before after : Env} {turns left : ℕ} → goes_on r ≡ false → Runs r does before after turns left
+    → Runs r (λ lists. within (does lists)) before after turns left
+ended_early {r} stops p = ended p (λ goes. absurd (true_is_false (sym goes ∙ stops))) (λ stays. refl)
+  where
+    true_is_false : true ≡ false → ⊥
+    true_is_false is = cc
+
 -- ---- forms
 
 module _ (does : Lists → Run) (before : Env) (turns : ℕ) where

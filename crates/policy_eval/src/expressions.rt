@@ -1,15 +1,19 @@
 //! The values of expressions. A block of an `if` puts its names behind those in scope, and they are taken off behind it.
 
-ghost use Rattle.std.specs.Prelude.{◌≡◌, IfOk, IsTrue};
+ghost use Rattle.std.specs.Prelude.{◌≡◌, ℕ, IfOk, IsTrue};
 ghost use Rattle.fact_store.specs.Rows.{are_keys};
+ghost use Rattle.fact_store.specs.declared.wanted.Wanted.{Wanted};
+ghost use Rattle.policy_expressions.specs.Answers.{Gives};
+ghost use Rattle.policy_expressions.specs.Forms.{count_of};
 ghost use Rattle.policy_expressions.specs.Meant.{binds_meant, block_meant, else_meant, gaps_meant, meant, values_meant, wanted_meant};
+ghost use Rattle.policy_meaning.specs.Outcomes.{Out};
 ghost use Rattle.policy_rules.specs.Expressions.{value_part};
 ghost use Rattle.policy_eval.specs.working.Endings.{Evaluates, EvaluatesWithin};
 
 use crate::calls::called;
 use base_bytes::{Value, Values};
 use fact_store::{FactBase, Wanted};
-use policy_ast::{Bind, ElseExpr, Expr, ExprBlock, Free, Pattern};
+use policy_ast::{Bind, Count, ElseExpr, Expr, ExprBlock, Free, Pattern};
 use policy_expressions::{
     Answer, Env, Known, Setting, calculation_of, compare_of, count_of, exists_of, field_of,
     foreign_value, let_in, literal_value, name_value, pattern_of, presence_of, push_gap,
@@ -17,6 +21,19 @@ use policy_expressions::{
 };
 use sqlite_items::Items;
 use std::alloc::Global;
+
+/// The number of rows that match, held against a number that is written out.
+fn rows_counted<F: FactBase>(
+    facts: &F,
+    op: Count,
+    n: &i64,
+    found: Answer<Wanted>,
+) -> Answer<Value>
+    requires keys { IfOk found (λ wanted. IsTrue (are_keys wanted.keys)) }
+    ensures { (turns : ℕ) (out : Out Wanted) → Gives found turns out → Gives result turns (count_of (F.rows facts.now) op n.now out) }
+{
+    count_of(facts, op, *n, found)
+}
 
 /// The value of an expression over these facts, where calls stand in chains of at most `depth`. The names in scope stay as they are.
 #[cycle(value_of)]
@@ -34,44 +51,54 @@ pub fn value_of<'a, F: FactBase>(
 {
     match e {
         Expr::Or(a, b) => {
-            let first = value_of(alloc, known, facts, setting, depth, env, turns, a.get());
+            let a = a.get();
+            let b = b.get();
+            let first = value_of(alloc, known, facts, setting, depth, env, turns, a);
             let test = truth_of(first)?;
             if test {
                 Ok(Value::Bool(true))
             } else {
-                value_of(alloc, known, facts, setting, depth, env, turns, b.get())
+                value_of(alloc, known, facts, setting, depth, env, turns, b)
             }
         }
         Expr::And(a, b) => {
-            let first = value_of(alloc, known, facts, setting, depth, env, turns, a.get());
+            let a = a.get();
+            let b = b.get();
+            let first = value_of(alloc, known, facts, setting, depth, env, turns, a);
             let test = truth_of(first)?;
             if test {
-                value_of(alloc, known, facts, setting, depth, env, turns, b.get())
+                value_of(alloc, known, facts, setting, depth, env, turns, b)
             } else {
                 Ok(Value::Bool(false))
             }
         }
         Expr::Compare(a, op, b) => {
-            let first = value_of(alloc, known, facts, setting, depth, env, turns, a.get())?;
-            let second = value_of(alloc, known, facts, setting, depth, env, turns, b.get());
+            let a = a.get();
+            let b = b.get();
+            let first = value_of(alloc, known, facts, setting, depth, env, turns, a)?;
+            let second = value_of(alloc, known, facts, setting, depth, env, turns, b);
             compare_of(*op, first, second)
         }
         Expr::Is(a, op) => {
-            let found = value_of(alloc, known, facts, setting, depth, env, turns, a.get());
+            let a = a.get();
+            let found = value_of(alloc, known, facts, setting, depth, env, turns, a);
             presence_of(*op, found)
         }
         Expr::Unary(op, a) => {
-            let found = value_of(alloc, known, facts, setting, depth, env, turns, a.get());
+            let a = a.get();
+            let found = value_of(alloc, known, facts, setting, depth, env, turns, a);
             unary_of(*op, found)
         }
         Expr::Field(a, name) => {
-            let found = value_of(alloc, known, facts, setting, depth, env, turns, a.get());
+            let a = a.get();
+            let found = value_of(alloc, known, facts, setting, depth, env, turns, a);
             field_of(known, name, found)
         }
         Expr::Literal(literal) => literal_value(alloc, known, literal),
         Expr::None => Ok(Value::Nothing),
         Expr::Some(a) => {
-            let found = value_of(alloc, known, facts, setting, depth, env, turns, a.get());
+            let a = a.get();
+            let found = value_of(alloc, known, facts, setting, depth, env, turns, a);
             some_of(alloc, found)
         }
         Expr::This => this_value(alloc, setting),
@@ -88,8 +115,10 @@ pub fn value_of<'a, F: FactBase>(
             struct_of(alloc, known, name, binds, found)
         }
         Expr::Arithmetic(op, a, b) => {
-            let first = value_of(alloc, known, facts, setting, depth, env, turns, a.get())?;
-            let second = value_of(alloc, known, facts, setting, depth, env, turns, b.get());
+            let a = a.get();
+            let b = b.get();
+            let first = value_of(alloc, known, facts, setting, depth, env, turns, a)?;
+            let second = value_of(alloc, known, facts, setting, depth, env, turns, b);
             calculation_of(alloc, *op, first, second)
         }
         Expr::Query(p) => {
@@ -102,7 +131,7 @@ pub fn value_of<'a, F: FactBase>(
         }
         Expr::Count(op, n, p) => {
             let found = wanted_of(alloc, known, facts, setting, depth, env, turns, p);
-            count_of(facts, *op, *n, found)
+            rows_counted(facts, *op, n, found)
         }
         Expr::If(x) => {
             let x = x.get();

@@ -31,53 +31,42 @@ pub fn run<'a, F: FactBase>(
             let found = value_of(alloc, known, facts, setting, depth, env, turns, &one.value);
             let_flow(env, &one.name, found)
         }
-        Stmt::Check(e) => check_flow(value_of(
-            alloc, known, facts, setting, depth, env, turns, e,
-        )),
+        Stmt::Check(e) => {
+            let found = value_of(alloc, known, facts, setting, depth, env, turns, e);
+            check_flow(found)
+        }
         Stmt::If(x) => {
+            let outside = env.len();
             let head = value_of(alloc, known, facts, setting, depth, env, turns, &x.head);
             let test = truth_of(head)?;
             if test {
-                let outside = env.len();
-                let flow = run_all(
-                    alloc,
-                    known,
-                    facts,
-                    setting,
-                    depth,
-                    env,
-                    turns,
-                    x.then.as_slice(),
-                );
+                let body = x.then.as_slice();
+                let flow = run_all(alloc, known, facts, setting, depth, env, turns, body);
                 block_end(env, outside, flow)
             } else {
-                let outside = env.len();
-                let flow = run_else(
-                    alloc,
-                    known,
-                    facts,
-                    setting,
-                    depth,
-                    env,
-                    turns,
-                    &x.otherwise,
-                );
+                let rest = &x.otherwise;
+                let flow = run_else(alloc, known, facts, setting, depth, env, turns, rest);
                 block_end(env, outside, flow)
             }
         }
         Stmt::Match(e, arms) => {
-            let found = value_of(alloc, known, facts, setting, depth, env, turns, e);
-            let body = body_taken(known, arms.as_slice(), found)?;
             let outside = env.len();
+            let arms = arms.as_slice();
+            let found = value_of(alloc, known, facts, setting, depth, env, turns, e);
+            let body = body_taken(known, arms, found)?;
             let flow = run_all(alloc, known, facts, setting, depth, env, turns, body);
             block_end(env, outside, flow)
         }
-        Stmt::Finish(statements) => Ok(Flow::Reached(statements.as_slice())),
-        Stmt::Map(..) => Err(Stop::Stuck),
+        Stmt::Finish(statements) => {
+            let statements = statements.as_slice();
+            Ok(Flow::Reached(statements))
+        }
+        Stmt::Map(_, _, _) => Err(Stop::Stuck),
         Stmt::Publish(_) => Err(Stop::Stuck),
-        Stmt::Return(e) => return_flow(value_of(
-            alloc, known, facts, setting, depth, env, turns, e,
-        )),
+        Stmt::Return(e) => {
+            let found = value_of(alloc, known, facts, setting, depth, env, turns, e);
+            return_flow(found)
+        }
     }
 }
 
