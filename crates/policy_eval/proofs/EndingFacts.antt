@@ -1,5 +1,5 @@
 -- How a block ends, and what is known of it in a well-typed policy.
-use Rattle.std.proofs.Common.{◌≡◌, ℕ, List, [], OnErr, Option, Some, None, Result, Ok, Err, refl, sym, ap, subst, ◌∙◌}
+use Rattle.std.proofs.Common.{◌≡◌, ℕ, List, [], IfOk, OnErr, OnOk, Option, Some, None, Result, Ok, Err, refl, sym, ap, subst, ◌∙◌}
 use Rattle.std.specs.Borrow.{Bor}
 use Rattle.base_bytes.specs.declared.value.Value.{Value}
 use Rattle.fact_store.specs.declared.row.Row.{Row}
@@ -155,3 +155,11 @@ module _ (policy : List PlacedItem) (block : Ended) (old new : List Row) (well :
   effects_typed (verdict.Pass effects) runs = (subst (EndsWell policy) (sym runs.ends) well).1
   effects_typed verdict.Check runs = effects_none policy
   effects_typed (verdict.Fault kind) runs = effects_none policy
+
+  pub typed_on : {E : Type 0} (r : Result Verdict E) → IfOk r (λ v. Runs block v old new) → AreTyped policy old → OnOk r (AreTyped policy new)
+  typed_on (Ok v) runs typed = leaves_typed v runs typed
+  typed_on (Err why) runs typed = tt
+
+  pub effects_on : {E : Type 0} (r : Result Verdict E) → IfOk r (λ v. Runs block v old new) → IfOk r (λ v. AreEffectsOf policy (effects_of v))
+  effects_on (Ok v) runs = effects_typed v runs
+  effects_on (Err why) runs = tt

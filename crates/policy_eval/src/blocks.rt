@@ -148,6 +148,7 @@ pub(crate) fn policy_verdict<F: FactBase>(
     ensures typed { OnOk result (AreTyped checked.now (F.rows facts.new)) }
     ensures effects { IfOk result (λ verdict. AreEffectsOf checked.now (effects_of verdict)) }
 {
+    let _policy = checked.policy();
     blocks_are_never_stuck();
     is_id(&call.author);
     is_id(&call.id);
@@ -167,6 +168,7 @@ pub(crate) fn recall_verdict<F: FactBase>(
     ensures typed { OnOk result (AreTyped checked.now (F.rows facts.new)) }
     ensures effects { IfOk result (λ verdict. AreEffectsOf checked.now (effects_of verdict)) }
 {
+    let _policy = checked.policy();
     blocks_are_never_stuck();
     is_id(&call.author);
     is_id(&call.id);
