@@ -1,5 +1,6 @@
 -- How an action ends: what its calls tell is the meaning of the action with just those answers.
-use Rattle.std.proofs.Common.{◌≡◌, ℕ, List, [], ◌++◌, map, slice_get, Option, Some, None, option_and_then, Result, Ok, Err, refl, sym, ap, subst, ◌∙◌}
+use Rattle.std.proofs.Common.{◌≡◌, ℕ, Bool, true, false, List, [], ◌++◌, map, slice_get, unwrap_or, Option, Some, None, option_and_then, option_map, Result, Ok, Err, refl, sym, ap, subst, ◌∙◌}
+use Rattle.std.proofs.lemmas.Bool.{false≢true}
 use Rattle.std.proofs.lemmas.List.{append-nil}
 use Rattle.std.proofs.lemmas.Option.{same_Some}
 use Rattle.base_bytes.specs.declared.value.Value.{Value}
@@ -15,7 +16,7 @@ use Rattle.policy_meaning.specs.Blocks.{most_turns}
 use Rattle.policy_meaning.specs.Desks.{ActionRun, Acts as IsRun, Posting, answer, brought}
 use Rattle.policy_meaning.specs.Environments.{Env, bound_parameters}
 use Rattle.policy_meaning.specs.Outcomes.{Check, Fault, Stuck}
-use Rattle.policy_meaning.specs.Typed.{AreTyped}
+use Rattle.policy_meaning.specs.Typed.{AreTyped, IsActionOf, is_action_of}
 use Rattle.policy_meaning.specs.declared.ends.ActionEnd.{ActionEnd}
 use Rattle.policy_meaning.specs.declared.ends.ActionEnd.TheVariants as end
 use Rattle.policy_rules.specs.Names.{Name}
@@ -23,13 +24,13 @@ use Rattle.policy_rules.specs.Types.{declared}
 use Rattle.policy_rules.specs.WellTyped.{items_of}
 use Rattle.policy_types.specs.ActsWell.{ActsWell, LeaveTyped}
 use Rattle.policy_types.specs.NeverStuck.{ActionsGoWell}
-use Rattle.policy_eval.proofs.ActForms.{inside_told}
+use Rattle.policy_eval.proofs.ActForms.{acts_all, inside_told}
 use Rattle.policy_eval.proofs.ActingFacts.{acted_on, acted_still, goes_from, goes_into}
 use Rattle.policy_eval.proofs.DeedForms.{deeds_same}
 use Rattle.policy_eval.specs.declared.cause.Cause.{Cause}
 use Rattle.policy_eval.specs.declared.cause.Cause.TheVariants as cause
 use Rattle.policy_eval.specs.working.Acting.{Acted, Acts, ActsAtLast, GoesWell, Standing, StopsFor, StopsWell, ended_by, reason, settled, standing, world}
-use Rattle.policy_eval.specs.working.Deeds.{deeds, finished, whole}
+use Rattle.policy_eval.specs.working.Deeds.{action_parts, action_parts_of, body_whole, deeds, finished, whole}
 
 -- ---- what is left of an action
 
@@ -141,37 +142,61 @@ module _ {D : Type 0} (publishes : D → List Row → Posting → D → Type 0) 
 
 -- ---- the body of an action
 
-module _ {D : Type 0} (publishes : D → List Row → Posting → D → Type 0) (policy : List PlacedItem) (items : List Item) (device : List ℕ) (arguments : List Value) (rows : List Row) (typed : AreTyped policy rows)
-    (old new : D) (before now : ℕ) (last : List Row) where
-  module _ (name : Name) (parameters : List Field) (body : List Stmt) where
-    abbrev run_body : World → Deed Env
-    run_body w = inside (deeds items (action_setting device) body) (bound_parameters (declared parameters) arguments) w
+-- an action has its parts
+pub action_there : (policy : List PlacedItem) (action : ℕ) (arguments : List Value) → IsActionOf policy action arguments → action_parts (items_of policy) action ≡ None → ⊥
+unfolding IsActionOf
+action_there policy action arguments is none = by (slice_get (items_of policy) action) is none
+  where
+    by : (o : Option Item) → unwrap_or (option_map (is_action_of (items_of policy) arguments) o) false ≡ true → option_and_then action_parts_of o ≡ None → ⊥
+    by None is none = false≢true is
+    by (Some (item.Action name parameters body)) is none = absurd (cc)
+    by (Some other) is none = false≢true is
 
-    whole_is : (w : World) → settled (whole items device arguments (Some (item.Action name parameters body)) w) ≡ settled (run_body w >>> finished)
-    whole_is w = ap (λ d. settled (d >>> finished)) (deeds_same items (action_setting device) body (bound_parameters (declared parameters) arguments) w)
-        ∙ ap settled (inside_told (deeds items (action_setting device) body (bound_parameters (declared parameters) arguments) w) (bound_parameters (declared parameters) arguments) (Did tt))
+module _ (items : List Item) (device : List ℕ) (arguments : List Value) (parts : List Field × List Stmt) where
+  whole_by : (o : Option Item) → option_and_then action_parts_of o ≡ Some parts → (w : World) → whole items device arguments o w ≡ body_whole items device arguments parts w
+  whole_by None is w = absurd (cc)
+  whole_by (Some (item.Action name parameters body)) is w =
+      ap (λ d. d >>> finished) (deeds_same items (action_setting device) body (bound_parameters (declared parameters) arguments) w)
+      ∙ ap (λ parts. body_whole items device arguments parts w) (same_Some (parameters, body) parts is)
+  whole_by (Some other) is w = absurd (cc)
 
-    begun : Acted publishes policy (whole items device arguments (Some (item.Action name parameters body))) (λ w. run_body w >>> finished) (standing old rows most_turns before) (standing old rows most_turns before)
-    begun = acted_still publishes policy _ _ old rows most_turns most_turns before typed (λ left made. whole_is (world rows left made most_turns))
+  abbrev run_body : World → Deed Env
+  run_body w = inside (deeds items (action_setting device) parts.1) (bound_parameters (declared parts.0) arguments) w
 
-    pub body_goes : GoesWell policy (whole items device arguments (Some (item.Action name parameters body))) rows most_turns → GoesWell policy run_body rows most_turns
-    body_goes goes = goes_into policy run_body finished rows most_turns (goes_from publishes policy _ _ (standing old rows most_turns before) (standing old rows most_turns before) goes begun)
+  body_is : (w : World) → body_whole items device arguments parts w ≡ (run_body w >>> finished)
+  body_is w = inside_told (deeds items (action_setting device) parts.1 (bound_parameters (declared parts.0) arguments) w) (bound_parameters (declared parts.0) arguments) (Did tt)
 
-    pub body_on : (result : Result (Unit {0}) Cause) (after : Env) (left : ℕ) → Acts publishes policy result after run_body (standing old rows most_turns before) (standing new last left now)
-        → ActsAtLast publishes policy result (whole items device arguments (Some (item.Action name parameters body))) old rows most_turns before new last now
-    body_on result after left acts = record { left = left; acts = by result acts }
+  module _ {D : Type 0} (publishes : D → List Row → Posting → D → Type 0) (policy : List PlacedItem) (rows : List Row) (typed : AreTyped policy rows) (desk : D) (before : ℕ) where
+    abbrev begin : Standing D
+    begin = standing desk rows most_turns before
+
+    begun : Acted publishes policy (body_whole items device arguments parts) (λ w. run_body w >>> finished) begin begin
+    begun = acted_still publishes policy _ _ desk rows most_turns most_turns before typed (λ left made. ap settled (body_is (world rows left made most_turns)))
+
+    pub body_goes : GoesWell policy (body_whole items device arguments parts) rows most_turns → GoesWell policy run_body rows most_turns
+    body_goes goes = goes_into policy run_body finished rows most_turns (goes_from publishes policy _ _ begin begin goes begun)
+
+    pub body_on : (result : Result (Unit {0}) Cause) (after : Env) (new : D) (last : List Row) (left now : ℕ) → Acts publishes policy result after run_body begin (standing new last left now)
+        → ActsAtLast publishes policy result (body_whole items device arguments parts) desk rows most_turns before new last now
+    body_on result after new last left now acts = record { left = left; acts = by result acts }
       where
-        of : (why : Option Stop) → StopsFor publishes policy why run_body (standing old rows most_turns before) (standing new last left now)
-            → StopsFor publishes policy why (whole items device arguments (Some (item.Action name parameters body))) (standing old rows most_turns before) (standing new last left now)
+        of : (why : Option Stop) → StopsFor publishes policy why run_body begin (standing new last left now) → StopsFor publishes policy why (body_whole items device arguments parts) begin (standing new last left now)
         of None acts = tt
-        of (Some why) acts = acted_on publishes policy _ run_body (Stops why) finished (standing old rows most_turns before) (standing old rows most_turns before) (standing new last left now) begun acts
+        of (Some why) acts = acted_on publishes policy _ run_body (Stops why) finished begin begin (standing new last left now) begun acts
 
-        by : (result : Result (Unit {0}) Cause) → Acts publishes policy result after run_body (standing old rows most_turns before) (standing new last left now)
-            → Acts publishes policy result tt (whole items device arguments (Some (item.Action name parameters body))) (standing old rows most_turns before) (standing new last left now)
-        by (Ok done) acts = acted_on publishes policy _ run_body (Did after) finished (standing old rows most_turns before) (standing old rows most_turns before) (standing new last left now) begun acts
+        by : (result : Result (Unit {0}) Cause) → Acts publishes policy result after run_body begin (standing new last left now)
+            → Acts publishes policy result tt (body_whole items device arguments parts) begin (standing new last left now)
+        by (Ok done) acts = acted_on publishes policy _ run_body (Did after) finished begin begin (standing new last left now) begun acts
         by (Err why) acts = of (reason why) acts
 
-  -- there is no such action
-  pub no_action : (o : Option Item) → ((w : World) → action_deed items device arguments o w ≡ Stops (Halts Stuck) w)
-      → ActsAtLast publishes policy (Err (cause.Stop stop.Stuck)) (whole items device arguments o) old rows most_turns before old rows before
-  no_action o none = record { left = most_turns; acts = acted_still publishes policy _ _ old rows most_turns most_turns before typed (λ left made. ap (λ d. settled (d >>> finished)) (none (world rows left made most_turns))) }
+    module _ (action : ℕ) (some : action_parts items action ≡ Some parts) where
+      -- the action by its number
+      entered : Acted publishes policy (whole items device arguments (slice_get items action)) (body_whole items device arguments parts) begin begin
+      entered = acted_still publishes policy _ _ desk rows most_turns most_turns before typed (λ left made. ap settled (whole_by (slice_get items action) some (world rows left made most_turns)))
+
+      pub whole_body_goes : GoesWell policy (whole items device arguments (slice_get items action)) rows most_turns → GoesWell policy (body_whole items device arguments parts) rows most_turns
+      whole_body_goes goes = goes_from publishes policy _ _ begin begin goes entered
+
+      pub whole_body_on : (result : Result (Unit {0}) Cause) (new : D) (last : List Row) (now : ℕ) → ActsAtLast publishes policy result (body_whole items device arguments parts) desk rows most_turns before new last now
+          → ActsAtLast publishes policy result (whole items device arguments (slice_get items action)) desk rows most_turns before new last now
+      whole_body_on result new last now acts = record { left = acts.left; acts = acts_all publishes policy result tt _ (body_whole items device arguments parts) begin begin (standing new last acts.left now) entered acts.acts }

@@ -45,6 +45,10 @@ ends_early (stop.Fault kind) out rows is = (ap (block_ended rows) is, refl)
 ends_early stop.Stuck out rows is = ap (block_ended rows) is
 ends_early stop.NoMemory out rows is = tt
 
+-- a block that ends as another
+pub ends_as : (r : Result (List Effect) Stop) (block other : Ended) (old new : List Row) → block ≡ other → EndsSo r other old new → EndsSo r block old new
+ends_as r block other old new same is = subst (λ block. EndsSo r block old new) (sym same) is
+
 -- ---- the statements of a block, by what they come to
 
 module _ (items : List Item) (call : Call) (rows : List Row) (body : List Stmt) (left : ℕ) where

@@ -18,3 +18,8 @@ pub returns-in-Refused-clause-acts : goal.returns-in-Refused-clause-acts
 returns-in-Refused-clause-acts g c =
     posted_on g.P.Desk.publishes (g.P.Desk.policy c.args.desk.now) (struct_parts c.args.value) c.in-Some.command c.in-Some.fields (sym c.in-Some.ensures) c.in_ok-publish.field-0 posted.Refused c.in-Refused.is
     c.args.desk.now c.publish.new.self (g.F.FactBase.rows c.args.facts.now) (g.F.FactBase.rows c.publish.new.facts) c.args.steps.now c.publish.new.steps c.in_ok-publish.ensures.publishes c.in_ok-publish.ensures.stay c.in_ok-publish.ensures.typed
+
+pub returns-in_default-clause-acts : goal.returns-in_default-clause-acts
+returns-in_default-clause-acts g c turns =
+    parts_stick g.P.Desk.publishes (g.P.Desk.policy c.args.desk.now) (struct_parts c.args.value) (sym c.parts_of.ensures ∙ c.in_default.is) c.args.desk.now (g.F.FactBase.rows c.args.facts.now) turns c.args.steps.now
+    c.requires.typed
