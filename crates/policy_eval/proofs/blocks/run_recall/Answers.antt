@@ -1,0 +1,20 @@
+use Rattle.std.proofs.Common.{◌∙◌, Some, None, ap, subst, sym}
+use Rattle.std.specs.Option.{option_copied}
+use Rattle.policy_meaning.specs.Applying.{Passes}
+use Rattle.policy_meaning.specs.Blocks.{recall_block, body_ended}
+use Rattle.policy_rules.specs.WellTyped.{items_of}
+use Rattle.policy_eval.proofs.EndingFacts.{ends_as, no_sections, recall_is}
+use Rattle.policy_eval.specs.working.Ending.{EndsSo}
+use Rattle.policy_eval.proofs.blocks.run_recall.Goals as goal
+
+pub returns-in_default : goal.returns-in_default
+returns-in_default g c = (no_sections c.args.checked.now c.args.call.now (g.F.FactBase.rows c.args.facts.now) (sym c.called_sections.ensures ∙ ap option_copied c.in_default.is)).1
+
+pub returns-in_default-recall_body : goal.returns-in_default-recall_body
+returns-in_default-recall_body g c = recall_is c.args.checked.now c.args.call.now (g.F.FactBase.rows c.args.facts.now) c.in-Some.sections.now (sym c.in-Some.ensures) None (sym c.recall_body.ensures ∙ ap option_copied c.in_default-recall_body.is) ∙ ap (Passes (g.F.FactBase.rows c.args.facts.now)) (sym c.new.ensures)
+
+pub returns : goal.returns
+returns g c =
+    ends_as c.run_block.result (recall_block c.args.checked.now c.args.call.now (g.F.FactBase.rows c.args.facts.now)) (body_ended (items_of c.args.checked.now) c.args.call.now (g.F.FactBase.rows c.args.facts.now) c.in-Some-recall_body.body.now) (g.F.FactBase.rows c.args.facts.now) (g.F.FactBase.rows c.run_block.new.facts)
+    (recall_is c.args.checked.now c.args.call.now (g.F.FactBase.rows c.args.facts.now) c.in-Some.sections.now (sym c.in-Some.ensures) (Some c.in-Some-recall_body.body.now) (sym c.in-Some-recall_body.ensures))
+    (subst (λ items. EndsSo c.run_block.result (body_ended items c.args.call.now (g.F.FactBase.rows c.args.facts.now) c.in-Some-recall_body.body.now) (g.F.FactBase.rows c.args.facts.now) (g.F.FactBase.rows c.run_block.new.facts)) c.in_ok-known.ensures c.run_block.ensures)
