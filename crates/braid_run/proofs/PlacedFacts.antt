@@ -10,35 +10,35 @@ use Rattle.braid.proofs.Closures.{closures}
 use Rattle.braid.proofs.Existence.{some_braid}
 use Rattle.braid.proofs.Gathering.{place_of_member}
 use Rattle.braid_run.specs.Laws.{HasPlaceFacts, PlaceFactsStay}
-use Rattle.braid_run.specs.Places.{AreAtPlace, IsBehind, parent_places}
+use Rattle.braid_run.specs.Places.{AgreeOnIds, AreAtPlace, IsBehind, parent_places}
 use Rattle.braid_run.specs.Runs.{run_of}
 use Rattle.command.specs.Ancestors.{IsUnder}
-use Rattle.command.specs.Closed.{IsClosed, IsHeld, place_of}
+use Rattle.command.specs.Closed.{IsClosed, IsHeld, IsNext, place_of}
 use Rattle.command.specs.Kinds.{parents_of}
 use Rattle.command.specs.Wire.{command_id}
 use Rattle.command.specs.declared.command.Command.{Command}
-use Rattle.command.proofs.AncestorFacts.{kept, older_inside, was}
-use Rattle.command.proofs.ClosedFacts.{held_command, same_by_id}
-use Rattle.command.proofs.ListFacts.{at_head, behind_head, head_cases, none_element}
+use Rattle.command.proofs.AncestorFacts.{IsDown, ancestor_down, older_inside}
+use Rattle.command.proofs.ClosedFacts.{held_command, held_more, parents_held, same_by_id}
+use Rattle.command.proofs.ListFacts.{at_head, behind_head, each_left, head_cases, none_element}
 use Rattle.command.proofs.PlaceFacts.{inside_at, place_at}
 use Rattle.fact_store.specs.declared.row.Row.{Row}
 use Rattle.policy_ast.specs.declared.policy.PlacedItem.{PlacedItem}
 
 -- ---- what is found of some ids
 
-here : (o : Option ℕ) (p : ℕ) (more : List ℕ) → o ≡ Some p → Contains (cons_option o more) p
+here : {X : Type 0} (o : Option X) (p : X) (more : List X) → o ≡ Some p → Contains (cons_option o more) p
 here o p more is = subst (λ q. Contains (cons_option q more) p) (sym is) (at_head p more)
 
-later : (o : Option ℕ) (p : ℕ) (more : List ℕ) → Contains more p → Contains (cons_option o more) p
+later : {X : Type 0} (o : Option X) (p : X) (more : List X) → Contains more p → Contains (cons_option o more) p
 later None p more inside = inside
 later (Some q) p more inside = behind_head q more p inside
 
-cases : (o : Option ℕ) (p : ℕ) (more : List ℕ) → Contains (cons_option o more) p → (o ≡ Some p) ⊎ Contains more p
+cases : {X : Type 0} (o : Option X) (p : X) (more : List X) → Contains (cons_option o more) p → (o ≡ Some p) ⊎ Contains more p
 cases None p more inside = inr inside
 cases (Some q) p more inside = elim (head_cases q more p inside) [ inl same ↦ inl (ap Some same) | inr behind ↦ inr behind ]
 
-module _ (place : List ℕ → Option ℕ) where
-  found_has : (ids : List (List ℕ)) (id : List ℕ) (p : ℕ) → Contains ids id → place id ≡ Some p → Contains (filter_map place ids) p
+module _ {X Y : Type 0} (place : X → Option Y) where
+  pub found_has : (ids : List X) (id : X) (p : Y) → Contains ids id → place id ≡ Some p → Contains (filter_map place ids) p
   found_has [] id p inside is = absurd (none_element id inside)
   found_has (i ∷ ids) id p inside is =
       elim (head_cases i ids id inside) [
@@ -46,7 +46,7 @@ module _ (place : List ℕ → Option ℕ) where
         | inr behind ↦ later (place i) p (filter_map place ids) (found_has ids id p behind is)
       ]
 
-  found_was : (ids : List (List ℕ)) (p : ℕ) → Contains (filter_map place ids) p → (id : List ℕ) × Contains ids id × (place id ≡ Some p)
+  found_was : (ids : List X) (p : Y) → Contains (filter_map place ids) p → (id : X) × Contains ids id × (place id ≡ Some p)
   found_was [] p inside = absurd (none_element p inside)
   found_was (i ∷ ids) p inside =
       elim (cases (place i) p (filter_map place ids) inside) [
@@ -88,51 +88,70 @@ module _ (cs : List Command) (closed : IsClosed cs) (c : Command) where
     under = under_parents;
   }
 
--- ---- an append
+-- ---- another list
 
-module _ (cs more : List Command) (longer : IsClosed (cs ++ more)) (c : Command) (held : (id : List ℕ) → Contains (parents_of c) id → IsHeld cs id) where
-  -- a parent in the longer list is one of the shorter
-  parent_before : (m : Command) → Contains (cs ++ more) m → Contains (parents_of c) (command_id m) → Contains cs m
-  parent_before m inside link =
-      let found = held_command cs (command_id m) (held (command_id m) link) in
-      subst (λ z. Contains cs z) (same_by_id (cs ++ more) longer found.0 m (Contains-append_left cs more found.0 found.1) inside found.2) found.1
+behind_inside : (cs : List Command) (c x : Command) → IsBehind cs c x → Contains cs x
+behind_inside cs c x b = elim b.3 [ inl same ↦ subst (λ z. Contains cs z) (sym same) b.1 | inr above ↦ older_inside cs x b.0 above ]
 
-  behind_kept : (x : Command) → IsBehind cs c x → IsBehind (cs ++ more) c x
-  behind_kept x b = (
-    b.0,
-    Contains-append_left cs more b.0 b.1,
-    b.2,
-    elim b.3 [ inl same ↦ inl same | inr above ↦ inr (kept cs more x b.0 above) ],
-  )
+other_agrees : (one other : List Command) → AgreeOnIds one other → AgreeOnIds other one
+other_agrees one other agree x y h k is = sym (agree y x k h (sym is))
 
-  behind_was : (x : Command) → IsBehind (cs ++ more) c x → IsBehind cs c x
-  behind_was x b =
-      let inside = parent_before b.0 b.1 b.2 in (
+module _ (one other : List Command) (also : IsClosed other) (agree : AgreeOnIds one other) where
+  -- what stands above a command that both hold is held by both
+  down_across : IsDown other one
+  down_across m y e inside =
+      let held = held_command other (command_id m) (parents_held other also y (command_id m) inside e.link) in
+      subst (λ z. Contains other z) (sym (agree m held.0 e.older held.1 (sym held.2))) held.1
+
+  behind_across : (c : Command) → ((id : List ℕ) → Contains (parents_of c) id → IsHeld other id) → (x : Command) → IsBehind one c x → IsBehind other c x
+  behind_across c held x b =
+      let found = held_command other (command_id b.0) (held (command_id b.0) b.2) in
+      let inside : Contains other b.0 = subst (λ z. Contains other z) (sym (agree b.0 found.0 b.1 found.1 (sym found.2))) found.1 in (
         b.0,
         inside,
         b.2,
-        elim b.3 [ inl same ↦ inl same | inr above ↦ inr (was cs more longer x b.0 inside above) ],
+        elim b.3 [ inl same ↦ inl same | inr above ↦ inr (ancestor_down other one down_across x b.0 above inside) ],
       )
 
-  behind_inside : (x : Command) → IsBehind cs c x → Contains cs x
-  behind_inside x b = elim b.3 [ inl same ↦ subst (λ z. Contains cs z) (sym same) b.1 | inr above ↦ older_inside cs x b.0 above ]
-
-  braid_stays : (braid : List Command) → IsBraidOf cs (IsBehind cs c) braid ↔ IsBraidOf (cs ++ more) (IsBehind (cs ++ more) c) braid
-  braid_stays =
-      same_braids cs (cs ++ more) (IsBehind cs c) (IsBehind (cs ++ more) c)
+-- where both hold the parents of a command, and no id is two commands, the facts at its place are the same
+pub place_across : (policy : List PlacedItem) (one other : List Command) (c : Command) (rows : List Row) → IsClosed one → IsClosed other → AgreeOnIds one other →
+    ((id : List ℕ) → Contains (parents_of c) id → IsHeld one id × IsHeld other id) → AreAtPlace policy one c rows → AreAtPlace policy other c rows
+place_across policy one other c rows closed also agree held at = record {
+  braid = at.braid;
+  is =
+      (same_braids one other (IsBehind one c) (IsBehind other c)
       (record {
-        same = λ x. (
-          (λ h. (Contains-append_left cs more x h.0, behind_kept x h.1)),
-          (λ h. let b = behind_was x h.1 in (behind_inside x b, b)),
+        same = λ x. ((λ h. let b = there x h.1 in (behind_inside other c x b, b)), (λ h. let b = here x h.1 in (behind_inside one c x b, b)));
+        agree = λ x y h k. (
+          (λ a. ancestor_down other one (down_across one other also agree) x y a (behind_inside other c y (there y k.1))),
+          (λ a. ancestor_down one other (down_across other one closed (other_agrees one other agree)) x y a k.0),
         );
-        agree = λ x y h k. (kept cs more x y, was cs more longer x y k.0);
-      })
+      }) at.braid).0
+      at.is;
+  same_rows = at.same_rows;
+}
+  where
+    there : (x : Command) → IsBehind one c x → IsBehind other c x
+    there = behind_across one other also agree c (λ id link. (held id link).1)
+
+    here : (x : Command) → IsBehind other c x → IsBehind one c x
+    here = behind_across other one closed (other_agrees one other agree) c (λ id link. (held id link).0)
+
+-- ---- an append
+
+module _ (cs more : List Command) (longer : IsClosed (cs ++ more)) (c : Command) (held : (id : List ℕ) → Contains (parents_of c) id → IsHeld cs id) where
+  closed_before : IsClosed cs
+  closed_before = each_left IsNext [] cs more longer
+
+  append_agrees : AgreeOnIds cs (cs ++ more)
+  append_agrees x y h k is = same_by_id (cs ++ more) longer x y (Contains-append_left cs more x h) k is
 
   pub place_before : (policy : List PlacedItem) (rows : List Row) → AreAtPlace policy (cs ++ more) c rows → AreAtPlace policy cs c rows
-  place_before policy rows at = record { braid = at.braid; is = (braid_stays at.braid).1 at.is; same_rows = at.same_rows }
+  place_before policy rows at =
+      place_across policy (cs ++ more) cs c rows longer closed_before (other_agrees cs (cs ++ more) append_agrees) (λ id link. (held_more cs more id (held id link), held id link)) at
 
   pub place_after : (policy : List PlacedItem) (rows : List Row) → AreAtPlace policy cs c rows → AreAtPlace policy (cs ++ more) c rows
-  place_after policy rows at = record { braid = at.braid; is = (braid_stays at.braid).0 at.is; same_rows = at.same_rows }
+  place_after policy rows at = place_across policy cs (cs ++ more) c rows closed_before longer append_agrees (λ id link. (held id link, held_more cs more id (held id link))) at
 
 pub place_facts_stay : (policy : List PlacedItem) (cs : List Command) (c : Command) → ((id : List ℕ) → Contains (parents_of c) id → IsHeld cs id) → PlaceFactsStay policy cs c
 place_facts_stay policy cs c held more rows longer = (place_after cs more longer c held policy rows, place_before cs more longer c held policy rows)

@@ -1,5 +1,5 @@
 -- A command behind all others is the last of the braid, and a merge leaves the braid.
-use Rattle.std.proofs.Common.{◌≡◌, ℕ, zero, suc, ◌+◌, ◌<◌, ◌≤◌, ◌⊎◌, inl, inr, Bool, true, false, if◌then◌else◌, length, take, drop, List, [], ◌∷◌, ◌++◌, slice_get, Some, refl, sym, ap, subst, ◌∙◌, arith, append_assoc, append-nil, length-append}
+use Rattle.std.proofs.Common.{◌≡◌, ℕ, zero, suc, ◌+◌, ◌<◌, ◌≤◌, ◌⊎◌, inl, inr, Bool, true, false, if◌then◌else◌, length, take, drop, List, [], ◌∷◌, ◌++◌, slice_get, option_map, Some, refl, sym, ap, subst, ◌∙◌, arith, append_assoc, append-nil, length-append}
 use Rattle.std.specs.List.{All, Contains, list_any}
 use Rattle.std.specs.Str.{bytes_eq}
 use Rattle.std.proofs.lemmas.List.Elements.{All-cons, All-nil, Contains-append_left, Contains-append_right, Contains-push, Contains-push_cases}
@@ -11,12 +11,14 @@ use Rattle.braid.proofs.Carrying.{in_one_list, same_braids}
 use Rattle.braid.proofs.Gathering.{place_of_member}
 use Rattle.braid.proofs.PickOrder.{one_at}
 use Rattle.braid_run.specs.Places.{AreAtPlace, IsBehind}
-use Rattle.braid_run.specs.Published.{ArePublished, IsBehindAll, IsSoleHead, continued_run, without_merges}
+use Rattle.braid_run.specs.Batches.{IsBatch, IsCommonPrefix}
+use Rattle.braid_run.specs.Published.{ArePublished, IsBehindAll, IsCovered, IsSoleHead, continued_run, head_ids, without_merges}
 use Rattle.braid_run.specs.RunOf.{IsRunOf}
 use Rattle.braid_run.specs.Runs.{Run, entry_of, no_run, run_of, run_on, with_command}
 use Rattle.braid_run.specs.Soundness.{AreLawful, IsSoundExtension, IsSound, Criteria}
 use Rattle.braid_run.specs.States.{Held}
 use Rattle.braid_run.specs.declared.entry.Entry.{Entry}
+use Rattle.braid_run.proofs.PlacedFacts.{found_has}
 use Rattle.braid_run.proofs.RunFacts.{raised, run_append, run_grows, run_raised}
 use Rattle.braid_run.proofs.StandingFacts.{behind_above}
 use Rattle.command.specs.Ancestors.{Ancestor, IsAt, IsParent, IsUnder, IsUpTo, heads, is_parent, places_without}
@@ -27,7 +29,8 @@ use Rattle.command.specs.Wire.{command_id}
 use Rattle.command.specs.declared.command.Command.{Command}
 use Rattle.command.proofs.AncestorFacts.{from_newest, kept, newest_top, under_down, was}
 use Rattle.command.proofs.ClosedFacts.{held_by, same_bytes}
-use Rattle.command.proofs.ListFacts.{at_head, each_last, each_left, each_more, one_element}
+use Rattle.command.proofs.ListFacts.{at_head, behind_head, each_last, each_left, each_more, one_element}
+use Rattle.command.proofs.PlaceFacts.{inside_at}
 use Rattle.command.proofs.ReachFacts.{any_found}
 use Rattle.fact_store.specs.declared.row.Row.{Row}
 use Rattle.policy_ast.specs.declared.policy.PlacedItem.{PlacedItem}
@@ -79,7 +82,7 @@ module _ (cs : List Command) (c : Command) (closed : IsClosed (cs ++ c ∷ [])) 
 
   -- what is held stands above a command behind all of it
   pub all_above : IsBehindAll cs c → (x : Command) → Contains cs x → Ancestor (cs ++ c ∷ []) x c
-  all_above behind x inside = behind_above cs c x (behind.0, behind.1, behind.2, behind.3 x inside)
+  all_above behind x inside = behind_above cs c x (behind x inside)
 
   -- and it is the next tip
   pub next_sole_head : IsBehindAll cs c → IsSoleHead (cs ++ c ∷ []) c
@@ -149,52 +152,84 @@ more_entries policy rows entries ticks front (c ∷ cs) =
     (append_assoc front entries (entry_of (command_id c) (judged policy rows c) ∷ []))
     ∙ more_entries policy next.rows next.entries next.ticks front cs
 
+module _ (policy : List PlacedItem) (cs more : List Command) (rows : List Row) (entries : List Entry) (closed : IsClosed (cs ++ more)) (are : ArePublished cs more) (run : IsRunOf policy cs rows entries) where
+  abbrev plain : List Command
+  plain = without_merges more
+
+  now : IsRunOf policy (cs ++ more) (continued_run policy rows entries more).rows (continued_run policy rows entries more).entries
+  now = runs_last policy cs more rows entries closed are run
+
+  now_is : now.braid ≡ run.braid ++ plain
+  unfolding now runs_last
+  now_is = refl
+
+  size : length entries ≡ length run.braid
+  size = ap length run.same_entries ∙ run_grows policy no_run run.braid ∙ plus (length run.braid)
+    where
+      plus : (n : ℕ) → 0 + n ≡ n
+      plus n = omega arith
+
+  -- all that was run is run as before
+  all_common : IsCommonPrefix run.braid now.braid (length entries)
+  all_common =
+      subst (λ l. IsCommonPrefix run.braid l (length entries)) (sym now_is)
+      (record {
+        within = (omega (arith, size), omega (arith, size, length-append run.braid plain));
+        alike = ap (λ n. take n run.braid) size ∙ take-length run.braid ∙ sym (take-append_seam run.braid plain) ∙ ap (λ n. take n (run.braid ++ plain)) (sym size);
+      })
+
+  -- and the rest is what the run goes on with
+  rest_is : (continued_run policy rows [] more).entries ≡ drop (length entries) (run_of policy now.braid).entries
+  rest_is =
+      let with_old : (continued_run policy rows entries more).entries ≡ entries ++ (continued_run policy rows [] more).entries =
+      ap (λ es. (run_on policy (record { rows = rows; entries = es; ticks = 0 }) plain).entries) (sym (append-nil entries)) ∙ more_entries policy rows [] 0 entries plain in
+      sym (drop-append_seam entries (continued_run policy rows [] more).entries) ∙ ap (drop (length entries)) (sym with_old ∙ now.same_entries)
+
+  pub published_batch : IsBatch policy cs (cs ++ more) (record { cut = length entries; entries = (continued_run policy rows [] more).entries })
+  published_batch = record {
+    before = run.braid;
+    was = run.is;
+    now = now.braid;
+    is = now.is;
+    cuts = record { common = all_common; longest = λ n common. omega (arith, common.within.0, size) };
+    same_entries = rest_is;
+  }
+
+  same_now : (continued_run policy rows [] more).rows ≡ (run_of policy now.braid).rows
+  same_now = same_rows_of rows entries [] 0 plain ∙ now.same_rows
+    where
+      -- the facts don't depend on the entries so far
+      same_rows_of : (rows : List Row) (entries others : List Entry) (ticks : ℕ) (cs : List Command) →
+          (run_on policy (record { rows = rows; entries = others; ticks = ticks }) cs).rows ≡ (run_on policy (record { rows = rows; entries = entries; ticks = ticks }) cs).rows
+      same_rows_of rows entries others ticks [] = refl
+      same_rows_of rows entries others ticks (c ∷ cs) =
+          let next = with_command policy (record { rows = rows; entries = entries; ticks = ticks }) c in
+          let other = with_command policy (record { rows = rows; entries = others; ticks = ticks }) c in
+          same_rows_of next.rows next.entries other.entries next.ticks cs
+
 -- so what is published keeps a sound state sound, with all its entries as they are
 pub published_extends : (criteria : Criteria) (held : Held) (more : List Command) → IsClosed (held.commands ++ more) → ArePublished held.commands more → IsSound criteria held →
     AreLawful criteria (held.commands ++ more) more →
     IsSoundExtension criteria held.commands more (length held.entries) (continued_run criteria.policy held.rows [] more).rows (continued_run criteria.policy held.rows [] more).entries
-unfolding runs_last
 published_extends criteria held more closed are sound lawful =
     let policy = criteria.policy in
-    let before = sound.run.braid in
-    let plain = without_merges more in
-    let cut = length held.entries in
-    let size : cut ≡ length before = ap length sound.run.same_entries ∙ run_grows policy no_run before ∙ plus (length before) in
-    let now = runs_last policy held.commands more held.rows held.entries closed are sound.run in
-    let with_old : (continued_run policy held.rows held.entries more).entries ≡ held.entries ++ (continued_run policy held.rows [] more).entries =
-    ap (λ es. (run_on policy (record { rows = held.rows; entries = es; ticks = 0 }) plain).entries) (sym (append-nil held.entries)) ∙ more_entries policy held.rows [] 0 held.entries plain in
+    let last = now policy held.commands more held.rows held.entries closed are sound.run in
     record {
       lawful = lawful;
-      before = before;
+      before = sound.run.braid;
       was = sound.run.is;
-      now = now.braid;
-      is = now.is;
-      common = record {
-        within = (omega (arith, size), omega (arith, size, length-append before plain));
-        alike = ap (λ n. take n before) size ∙ take-length before ∙ sym (take-append_seam before plain) ∙ ap (λ n. take n (before ++ plain)) (sym size);
-      };
-      same_rows = same_rows_of policy held.rows held.entries [] 0 plain ∙ now.same_rows;
-      same_entries =
-          sym (drop-append_seam held.entries (continued_run policy held.rows [] more).entries) ∙ ap (drop cut) (sym with_old ∙ now.same_entries);
+      now = last.braid;
+      is = last.is;
+      common = all_common policy held.commands more held.rows held.entries closed are sound.run;
+      same_rows = same_now policy held.commands more held.rows held.entries closed are sound.run;
+      same_entries = rest_is policy held.commands more held.rows held.entries closed are sound.run;
     }
-  where
-    plus : (n : ℕ) → 0 + n ≡ n
-    plus n = omega arith
-
-    -- the facts don't depend on the entries so far
-    same_rows_of : (policy : List PlacedItem) (rows : List Row) (entries others : List Entry) (ticks : ℕ) (cs : List Command) →
-        (run_on policy (record { rows = rows; entries = others; ticks = ticks }) cs).rows ≡ (run_on policy (record { rows = rows; entries = entries; ticks = ticks }) cs).rows
-    same_rows_of policy rows entries others ticks [] = refl
-    same_rows_of policy rows entries others ticks (c ∷ cs) =
-        let next = with_command policy (record { rows = rows; entries = entries; ticks = ticks }) c in
-        let other = with_command policy (record { rows = rows; entries = others; ticks = ticks }) c in
-        same_rows_of policy next.rows next.entries other.entries next.ticks cs
 
 -- the facts at the place of a command behind all that is held are the facts held
 pub facts_behind_all : (policy : List PlacedItem) (cs : List Command) (c : Command) (rows others : List Row) (entries : List Entry) → IsClosed cs → IsBehindAll cs c → IsRunOf policy cs rows entries →
     AreAtPlace policy cs c others → others ≡ rows
 facts_behind_all policy cs c rows others entries closed behind run at =
-    let whole : IsBraid cs at.braid = (in_one_list cs (IsBehind cs c) (λ x. Unit {0}) (λ x inside. ((λ h. tt), (λ h. (behind.0, behind.1, behind.2, behind.3 x inside)))) at.braid).0 at.is in
+    let whole : IsBraid cs at.braid = (in_one_list cs (IsBehind cs c) (λ x. Unit {0}) (λ x inside. ((λ h. tt), (λ h. behind x inside))) at.braid).0 at.is in
     at.same_rows ∙ ap (λ b. (run_of policy b).rows) (one_braid cs closed (λ x. Unit {0}) at.braid run.braid whole run.is) ∙ sym run.same_rows
 
 -- ---- one head stands above all
@@ -224,12 +259,49 @@ module _ (cs : List Command) (closed : IsClosed cs) where
           let place = place_of_member cs closed y inside in
           (place.0, head_has (is_parent cs) 0 cs place.0 place.0 y (omega arith) place.1 is, (y, place.1, inl refl))
 
+  all_under : (x : Command) → Contains cs x → IsUnder cs (heads cs) x
+  all_under x inside = from_newest (λ y. IsUnder cs (heads cs) y) cs closed step x inside
+
   pub one_head_is_sole : (place : ℕ) (tip : Command) → heads cs ≡ place ∷ [] → IsAt cs place tip → IsSoleHead cs tip
   one_head_is_sole place tip only is x inside =
-      let u = from_newest (λ y. IsUnder cs (heads cs) y) cs closed step x inside in
+      let u = all_under x inside in
       let here : place ≡ u.0 = one_element place u.0 (subst (λ l. Contains l u.0) only u.1) in
       let same : u.2.0 ≡ tip = one_at cs place u.2.0 tip (subst (λ p. IsAt cs p u.2.0) (sym here) u.2.1) is in
       subst (λ z. IsUpTo cs z x) same u.2.2
+
+  pub heads_cover : IsCovered cs (head_ids cs)
+  heads_cover x inside =
+      let u = all_under x inside in
+      let tip = u.2.0 in
+      let named : option_map command_id (slice_get cs u.0) ≡ Some (command_id tip) = ap (option_map command_id) u.2.1 in (
+        tip,
+        inside_at cs u.0 tip u.2.1,
+        found_has (λ place. option_map command_id (slice_get cs place)) (heads cs) u.0 (command_id tip) u.1 named,
+        u.2.2,
+      )
+
+-- ---- what covers all
+
+pub next_covers : (cs : List Command) (c : Command) (ids others : List (List ℕ)) → IsCovered cs ids → ((id : List ℕ) → Contains ids id → Contains (parents_of c) id ⊎ Contains others id) →
+    IsCovered (cs ++ c ∷ []) (command_id c ∷ others)
+next_covers cs c ids others covered taken x inside =
+    elim (Contains-push_cases cs c x inside) [
+      | inr last ↦ (c, Contains-push cs c, at_head (command_id c) others, inl (sym last))
+      | inl older ↦
+          let above = covered x older in
+          elim (taken (command_id above.0) above.2) [
+            | inl link ↦ (c, Contains-push cs c, at_head (command_id c) others, inr (behind_above cs c x (above.0, above.1, link, above.3)))
+            | inr stays ↦ (
+              above.0,
+              Contains-append_left cs (c ∷ []) above.0 above.1,
+              behind_head (command_id c) others (command_id above.0) stays,
+              elim above.3 [ inl same ↦ inl same | inr further ↦ inr (kept cs (c ∷ []) x above.0 further) ],
+            )
+          ]
+    ]
+
+pub covered_behind : (cs : List Command) (c : Command) (ids : List (List ℕ)) → IsCovered cs ids → ((id : List ℕ) → Contains ids id → Contains (parents_of c) id) → IsBehindAll cs c
+covered_behind cs c ids covered links x inside = let above = covered x inside in (above.0, above.1, links (command_id above.0) above.2, above.3)
 
 -- ---- heads are places
 

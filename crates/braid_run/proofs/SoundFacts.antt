@@ -1,19 +1,31 @@
 -- Sound states stay sound: what stands behind a command that is held already is as it was.
-use Rattle.std.proofs.Common.{ℕ, inl, inr, List, ◌++◌, take, ap, ◌∙◌}
+use Rattle.std.proofs.Common.{ℕ, inl, inr, List, ◌++◌, take, sym, ap, ◌∙◌}
 use Rattle.std.specs.List.{Contains}
 use Rattle.std.proofs.lemmas.List.Elements.{Contains-append_cases}
 use Rattle.braid.proofs.Agreement.{one_braid}
+use Rattle.braid_run.specs.Places.{AgreeOnIds}
 use Rattle.braid_run.specs.Runs.{run_of}
 use Rattle.braid_run.specs.Soundness.{AreLawful, IsSoundExtension, IsLawful, IsSound, Criteria}
 use Rattle.braid_run.specs.States.{Held, IsStanding, extended}
 use Rattle.braid_run.specs.declared.entry.Entry.{Entry}
 use Rattle.braid_run.proofs.BatchFacts.{entries_on}
-use Rattle.braid_run.proofs.PlacedFacts.{place_before}
+use Rattle.braid_run.proofs.PlacedFacts.{place_across, place_before}
 use Rattle.command.specs.Closed.{IsClosed, IsHeld}
 use Rattle.command.specs.Kinds.{parents_of}
 use Rattle.command.specs.declared.command.Command.{Command}
 use Rattle.command.proofs.ClosedFacts.{parents_held}
 use Rattle.fact_store.specs.declared.row.Row.{Row}
+
+-- a command whose parents two lists hold is lawful in both, where no id is two commands
+pub lawful_across : (criteria : Criteria) (one other : List Command) (c : Command) → IsClosed one → IsClosed other → AgreeOnIds one other →
+    ((id : List ℕ) → Contains (parents_of c) id → IsHeld one id × IsHeld other id) → IsLawful criteria one c → IsLawful criteria other c
+lawful_across criteria one other c closed also agree held lawful = record {
+  digest = lawful.digest;
+  tag = lawful.tag;
+  kind = lawful.kind;
+  passes = λ rows at.
+      lawful.passes rows (place_across criteria.policy other one c rows also closed (λ x y h k is. sym (agree y x k h (sym is))) (λ id link. let both = held id link in (both.1, both.0)) at);
+}
 
 -- a command whose parents are held stays lawful behind an append
 pub lawful_on : (criteria : Criteria) (cs more : List Command) (c : Command) → IsClosed (cs ++ more) → ((id : List ℕ) → Contains (parents_of c) id → IsHeld cs id) → IsLawful criteria cs c →

@@ -1,5 +1,7 @@
 -- What a reader is told of a change: where to cut the entries that it has, and those that follow.
 use Rattle.std.specs.Prelude.{◌≡◌, ℕ, ◌≤◌, List, [], ◌∷◌, ◌++◌, drop, length, take}
+use Rattle.std.specs.List.{common_prefix_len}
+use Rattle.std.specs.Str.{bytes_eq}
 use Rattle.braid.specs.Braids.{IsBraid}
 use Rattle.braid_run.specs.Runs.{run_of}
 use Rattle.braid_run.specs.declared.entry.Entry.{Entry}
@@ -29,6 +31,10 @@ pub record IsBatch (policy : List PlacedItem) (old new : List Command) (batch : 
   pub is : IsBraid new now
   pub cuts : IsCut before now batch.cut
   pub same_entries : batch.entries ≡ drop batch.cut (run_of policy now).entries
+
+-- How many entries two lists share, from their first on, as their ids tell.
+abbrev pub shared_entries : List Entry → List Entry → ℕ
+shared_entries before now = common_prefix_len (λ one other. bytes_eq one.id other.id) before now
 
 -- What a reader has once it has followed a batch.
 abbrev pub followed : List Entry → Batch → List Entry

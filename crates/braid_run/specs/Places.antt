@@ -24,3 +24,7 @@ pub record AreAtPlace (policy : List PlacedItem) (cs : List Command) (c : Comman
 -- The places of those of c's parents that are held.
 abbrev pub parent_places : List Command → Command → List ℕ
 parent_places cs c = filter_map (place_of cs) (parents_of c)
+
+-- No id is that of one command here and of another there.
+abbrev pub AgreeOnIds : List Command → List Command → Type 0
+AgreeOnIds one other = (x y : Command) → Contains one x → Contains other y → command_id x ≡ command_id y → x ≡ y

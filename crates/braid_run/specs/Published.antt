@@ -1,10 +1,11 @@
 -- Commands that are published: each stands behind all that is held, and so runs last.
-use Rattle.std.specs.Prelude.{◌≡◌, ◌⊎◌, true, List, [], ◌∷◌, ◌++◌, filter, not}
-use Rattle.std.specs.List.{Contains}
+use Rattle.std.specs.Prelude.{◌≡◌, ℕ, ◌⊎◌, true, List, [], ◌∷◌, ◌++◌, filter, not, option_map, slice_get}
+use Rattle.std.specs.List.{Contains, filter_map}
+use Rattle.braid_run.specs.Places.{IsBehind}
 use Rattle.braid_run.specs.Runs.{Run, run_on}
 use Rattle.braid_run.specs.declared.entry.Entry.{Entry}
-use Rattle.command.specs.Ancestors.{IsUpTo}
-use Rattle.command.specs.Kinds.{is_merge, parents_of}
+use Rattle.command.specs.Ancestors.{IsUpTo, heads}
+use Rattle.command.specs.Kinds.{is_merge}
 use Rattle.command.specs.Wire.{command_id}
 use Rattle.command.specs.declared.command.Command.{Command}
 use Rattle.fact_store.specs.declared.row.Row.{Row}
@@ -14,9 +15,17 @@ use Rattle.policy_ast.specs.declared.policy.PlacedItem.{PlacedItem}
 abbrev pub IsSoleHead : List Command → Command → Type 0
 IsSoleHead cs tip = (x : Command) → Contains cs x → IsUpTo cs tip x
 
--- A parent of c stands above all that is held.
+-- Each command that is held is a parent of c, or an ancestor of one. Where none is held, this is so of an init.
 abbrev pub IsBehindAll : List Command → Command → Type 0
-IsBehindAll cs c = (tip : Command) × Contains cs tip × Contains (parents_of c) (command_id tip) × IsSoleHead cs tip
+IsBehindAll cs c = (x : Command) → Contains cs x → IsBehind cs c x
+
+-- The ids of the heads, in stored order.
+abbrev pub head_ids : List Command → List (List ℕ)
+head_ids cs = filter_map (λ place. option_map command_id (slice_get cs place)) (heads cs)
+
+-- Each command that is held has one of these ids, or is an ancestor of one that has.
+abbrev pub IsCovered : List Command → List (List ℕ) → Type 0
+IsCovered cs ids = (x : Command) → Contains cs x → (y : Command) × Contains cs y × Contains ids (command_id y) × IsUpTo cs y x
 
 -- Each of these is a merge, or stands behind all that is held by then.
 abbrev pub ArePublished : List Command → List Command → Type 0
