@@ -128,7 +128,6 @@ module _ {A B : Type 0} (of : List A → Env → ℕ → Out (List B)) (one : A 
       ended stop.Stuck (Ends halt) is = cc
       ended stop.NoMemory out is = tt
 
-
   -- A `?` stands in its place.
   pub gap_turns : {all : List A} {before now : Env} {turns left i : ℕ} {made more : List B} → SoFar of all before now turns left i made → (x : A) (y : B) → i < length all → x ≡ get_or all i x
       → ((env : Env) (n : ℕ) → one x env n ≡ Done y n) → more ≡ made ++ y ∷ [] → SoFar of all before now turns left (i + 1) more

@@ -58,10 +58,11 @@ ended {r} {does} {before} {after} {last} {turns} {left} p goes stays = by r goes
     by (Ok (flow.Reached statements)) goes stays comes kept =
         record {
           comes =
-              λ lists.
-              (before,
-              ap (λ (out : Out Ran). out >>= λ r n. ran r.flow before n) (comes lists).1 ∙ finished lists statements.now after (comes lists).0 left
-              ∙ ap (λ env. lists statements.now env left >>= λ changes m. ran (Finishes changes) before m) (sym (stays refl)));
+              λ lists. (
+                before,
+                ap (λ (out : Out Ran). out >>= λ r n. ran r.flow before n) (comes lists).1 ∙ finished lists statements.now after (comes lists).0 left
+                    ∙ ap (λ env. lists statements.now env left >>= λ changes m. ran (Finishes changes) before m) (sym (stays refl)),
+              );
           kept = subst (λ env. Keeps before env) (sym (stays refl)) kept;
         }
     by (Err why) goes stays comes kept =

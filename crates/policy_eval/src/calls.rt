@@ -27,7 +27,9 @@ fn parts_of<'a>(item: &'a Item) -> Option<Callee<'a>>
 {
     match item {
         Item::Function {
-            parameters, body, ..
+            parameters,
+            body,
+            ..
         } => Some(Callee {
             parameters: parameters.as_slice(),
             body: body.as_slice(),
@@ -70,6 +72,15 @@ pub fn called<'a, F: FactBase>(
     let mut env = Env::of_parameters(alloc, callee.parameters, values)?;
     let setting = Setting::none();
     let body = callee.body;
-    let flow = run_all(alloc, known, facts, &setting, depth - 1, &mut env, turns, body);
+    let flow = run_all(
+        alloc,
+        known,
+        facts,
+        &setting,
+        depth - 1,
+        &mut env,
+        turns,
+        body,
+    );
     returned(flow)
 }

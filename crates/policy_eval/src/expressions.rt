@@ -23,12 +23,7 @@ use sqlite_items::Items;
 use std::alloc::Global;
 
 /// The number of rows that match, held against a number that is written out.
-fn rows_counted<F: FactBase>(
-    facts: &F,
-    op: Count,
-    n: &i64,
-    found: Answer<Wanted>,
-) -> Answer<Value>
+fn rows_counted<F: FactBase>(facts: &F, op: Count, n: &i64, found: Answer<Wanted>) -> Answer<Value>
     requires keys { IfOk found (λ wanted. IsTrue (are_keys wanted.keys)) }
     ensures { (turns : ℕ) (out : Out Wanted) → Gives found turns out → Gives result turns (count_of (F.rows facts.now) op n.now out) }
 {
@@ -140,7 +135,16 @@ pub fn value_of<'a, F: FactBase>(
             if test {
                 block_value(alloc, known, facts, setting, depth, env, turns, &x.then)
             } else {
-                else_value(alloc, known, facts, setting, depth, env, turns, &x.otherwise)
+                else_value(
+                    alloc,
+                    known,
+                    facts,
+                    setting,
+                    depth,
+                    env,
+                    turns,
+                    &x.otherwise,
+                )
             }
         }
     }

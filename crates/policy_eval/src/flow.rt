@@ -83,7 +83,11 @@ pub fn block_end<'a>(env: &mut Env<'a>, outside: usize, flow: Answer<Flow<'a>>) 
 }
 
 /// The body of the first arm that takes the value.
-pub fn body_taken<'a>(known: &Known<'_>, arms: &'a [Arm<Stmt>], found: Answer<Value>) -> Answer<&'a [Stmt]>
+pub fn body_taken<'a>(
+    known: &Known<'_>,
+    arms: &'a [Arm<Stmt>],
+    found: Answer<Value>,
+) -> Answer<&'a [Stmt]>
     ensures gives { (turns : ℕ) (out : Out Value) → Gives found turns out → GivesBody result turns (body_of known.now arms.now out) }
     ensures among { IfOk result (λ body. IsAmongArms body.now arms.now) }
 {
