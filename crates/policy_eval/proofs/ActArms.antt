@@ -85,7 +85,7 @@ module _ {D : Type 0} (publishes : D → List Row → Posting → D → Type 0) 
       (subst (λ env'. Acts publishes policy (caused r) env' does start (at left)) (sym evaluates.kept)
       (leaves publishes policy r env does (λ rows turns. check_of (meant items rows setting longest_chain e env turns) >>= λ done turns. Done env turns)
       (λ w. ap (λ s. settled (deed items setting s env w)) is ∙ ap settled (check_is items setting env w e) ∙ check_told (meant items w.rows setting longest_chain e env w.turns) env w
-          ∙ env_told (check_of (meant items w.rows setting longest_chain e env w.turns)) w)
+      ∙ env_told (check_of (meant items w.rows setting longest_chain e env w.turns)) w)
       desk rows turns left ticks typed (passed r (check_of (meant items rows setting longest_chain e env turns)) (checks left (meant items rows setting longest_chain e env turns) evaluates.gives))))
     where
       env_told : (out : Out (Unit {0})) (w : World) → settled (told w out >>> λ done w. Did env w) ≡ settled (told w (out >>= λ done turns. Done env turns) >>> λ x w. Did x w)

@@ -1,5 +1,5 @@
 -- How an action ends: what its calls tell is the meaning of the action with just those answers.
-use Rattle.std.proofs.Common.{◌≡◌, ℕ, Bool, true, false, List, [], ◌++◌, map, slice_get, unwrap_or, Option, Some, None, option_and_then, option_map, Result, Ok, Err, refl, sym, ap, subst, ◌∙◌}
+use Rattle.std.proofs.Common.{◌≡◌, ℕ, Bool, true, false, List, [], ◌++◌, map, slice_get, unwrap_or, IfOk, Option, Some, None, option_and_then, option_map, Result, Ok, Err, refl, sym, ap, subst, ◌∙◌}
 use Rattle.std.proofs.lemmas.Bool.{false≢true}
 use Rattle.std.proofs.lemmas.List.{append-nil}
 use Rattle.std.proofs.lemmas.Option.{same_Some}
@@ -200,3 +200,29 @@ module _ (items : List Item) (device : List ℕ) (arguments : List Value) (parts
       pub whole_body_on : (result : Result (Unit {0}) Cause) (new : D) (last : List Row) (now : ℕ) → ActsAtLast publishes policy result (body_whole items device arguments parts) desk rows most_turns before new last now
           → ActsAtLast publishes policy result (whole items device arguments (slice_get items action)) desk rows most_turns before new last now
       whole_body_on result new last now acts = record { left = acts.left; acts = acts_all publishes policy result tt _ (body_whole items device arguments parts) begin begin (standing new last acts.left now) entered acts.acts }
+
+-- ---- an action of a policy at a desk of that policy
+
+module _ {D : Type 0} (publishes : D → List Row → Posting → D → Type 0) (policy : List PlacedItem) (action : ℕ) (arguments : List Value) (device : List ℕ) (rows : List Row) (typed : AreTyped policy rows)
+    (well : ActionsGoWell policy action arguments device rows) (parts : List Field × List Stmt) (some : action_parts (items_of policy) action ≡ Some parts) (desk : D) (before : ℕ)
+    (own : List PlacedItem) (own_is : own ≡ policy) (known : List Item) (known_is : known ≡ items_of policy) (values : List Value) (values_is : values ≡ arguments) where
+  pub begin_goes : GoesWell own (body_whole known device values parts) rows most_turns
+  begin_goes =
+      subst (λ own. GoesWell own (body_whole known device values parts) rows most_turns) (sym own_is)
+      (subst (λ known. GoesWell policy (body_whole known device values parts) rows most_turns) (sym known_is)
+      (subst (λ values. GoesWell policy (body_whole (items_of policy) device values parts) rows most_turns) (sym values_is)
+      (whole_body_goes (items_of policy) device arguments parts publishes policy rows typed desk before action some (whole_goes publishes policy action arguments device rows well))))
+
+  module _ (result : Result (Unit {0}) Cause) (new : D) (last : List Row) (now : ℕ) (acts : ActsAtLast publishes own result (body_whole known device values parts) desk rows most_turns before new last now) where
+    last_is : ActsAtLast publishes policy result (whole (items_of policy) device arguments (slice_get (items_of policy) action)) desk rows most_turns before new last now
+    last_is = whole_body_on (items_of policy) device arguments parts publishes policy rows typed desk before action some result new last now
+        (subst (λ values. ActsAtLast publishes policy result (body_whole (items_of policy) device values parts) desk rows most_turns before new last now) values_is
+        (subst (λ known. ActsAtLast publishes policy result (body_whole known device values parts) desk rows most_turns before new last now) known_is
+        (subst (λ own. ActsAtLast publishes own result (body_whole known device values parts) desk rows most_turns before new last now) own_is acts)))
+
+    pub never_stuck : result ≡ Err (cause.Stop stop.Stuck) → ⊥
+    never_stuck is = action_never_sticks publishes policy action arguments device (items_of policy) refl rows desk new before now last result well last_is is
+
+    pub runs_on : {E : Type 0} (r : Result ActionEnd E) → IfOk r (λ end. ended_by result ≡ Some end) → IfOk r (λ end. ActionRun publishes policy action arguments device desk rows end before now new last)
+    runs_on (Ok how) ends = action_run publishes policy action arguments device (items_of policy) refl rows desk new before now last result how last_is ends
+    runs_on (Err why) ends = tt

@@ -104,8 +104,8 @@ module _ (items : List Item) (setting : Setting) where
         ∙ then_same (told w (says w.rows x.head env w.turns)) (λ v w. choose (truth v) (inside (acts (map step x.then)) env) (inside (else_act (map_else step x.otherwise)) env) w)
         (λ v w. choose (truth v) (inside (deeds items setting x.then) env) (inside (else_deed items setting x.otherwise) env) w)
         (λ v w. choose_same (truth v) (inside (acts (map step x.then)) env) (inside (else_act (map_else step x.otherwise)) env) (inside (deeds items setting x.then) env) (inside (else_deed items setting x.otherwise) env) w
-            (inside_same (acts (map step x.then)) (deeds items setting x.then) env w (deeds_same x.then env w))
-            (inside_same (else_act (map_else step x.otherwise)) (else_deed items setting x.otherwise) env w (else_same x.otherwise env w)))
+        (inside_same (acts (map step x.then)) (deeds items setting x.then) env w (deeds_same x.then env w))
+        (inside_same (else_act (map_else step x.otherwise)) (else_deed items setting x.otherwise) env w (else_same x.otherwise env w)))
 
     pub match_is : (e : Expr) (arms : List (Arm Stmt)) → deed items setting (stmt.Match e arms) env w
         ≡ (told w (meant items w.rows setting longest_chain e env w.turns) >>> λ v w. inside (arm_deed items setting (first_body items v arms)) env w)
@@ -115,7 +115,7 @@ module _ (items : List Item) (setting : Setting) where
         ∙ then_same (told w (says w.rows e env w.turns)) (λ v w. inside (arm_act (first_body items v (map (map_arm step) arms))) env w)
         (λ v w. inside (arm_deed items setting (first_body items v arms)) env w)
         (λ v w. ap (λ o. inside (arm_act o) env w) (first_body_map items step v arms)
-            ∙ inside_same (arm_act (option_map (map step) (first_body items v arms))) (arm_deed items setting (first_body items v arms)) env w (arm_same (first_body items v arms) env w))
+        ∙ inside_same (arm_act (option_map (map step) (first_body items v arms))) (arm_deed items setting (first_body items v arms)) env w (arm_same (first_body items v arms) env w))
 
     pub map_is : (p : Pattern Expr) (name : Name) (body : List Stmt) → deed items setting (stmt.Map p name body) env w
         ≡ (told w (wanted_meant items w.rows setting longest_chain p env w.turns) >>> λ q w. each_row name (deeds items setting body) env (selected q w.rows) w)

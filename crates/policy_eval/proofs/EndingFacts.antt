@@ -1,5 +1,5 @@
 -- How a block ends, and what is known of it in a well-typed policy.
-use Rattle.std.proofs.Common.{◌≡◌, ℕ, List, [], IfOk, OnErr, OnOk, Option, Some, None, Result, Ok, Err, refl, sym, ap, subst, ◌∙◌}
+use Rattle.std.proofs.Common.{◌≡◌, ℕ, List, [], IfOk, OnOk, Option, Some, None, Result, Ok, Err, refl, sym, ap, subst, ◌∙◌}
 use Rattle.std.specs.Borrow.{Bor}
 use Rattle.base_bytes.specs.declared.value.Value.{Value}
 use Rattle.fact_store.specs.declared.row.Row.{Row}
@@ -9,7 +9,7 @@ use Rattle.policy_ast.specs.declared.item.Section.{Section}
 use Rattle.policy_ast.specs.declared.policy.PlacedItem.{PlacedItem}
 use Rattle.policy_ast.specs.declared.statement.Stmt.{Stmt}
 use Rattle.policy_expressions.specs.Answers.{Stops}
-use Rattle.policy_expressions.specs.Applying.{AppliesAll}
+use Rattle.policy_expressions.specs.Applying.{AppliesAll, Stays}
 use Rattle.policy_expressions.specs.Meant.{stmt_meant, stmts_meant}
 use Rattle.policy_expressions.specs.declared.stop.Stop.{Stop}
 use Rattle.policy_expressions.specs.declared.stop.Stop.TheVariants as stop
@@ -82,7 +82,7 @@ module _ (items : List Item) (call : Call) (rows : List Row) (body : List Stmt) 
         subst (λ block. EndsSo r block rows new) (sym (same_so ∙ ap (block_ended rows) (listed_so ∙ ap (λ out. out >>= λ changes turns. ran (Finishes changes) behind turns) is))) ends
 
 -- all changes were made, or none
-pub ends_applied : (r : Result (List Effect) Stop) (changes : List Change) (old new : List Row) → AppliesAll r changes old new → OnErr r (new ≡ old) → EndsSo r (applied changes old) old new
+pub ends_applied : (r : Result (List Effect) Stop) (changes : List Change) (old new : List Row) → AppliesAll r changes old new → Stays r old new → EndsSo r (applied changes old) old new
 ends_applied (Ok effects) changes old new is same = is
 ends_applied (Err stop.Check) changes old new is same = (is, same)
 ends_applied (Err (stop.Fault kind)) changes old new is same = (is, same)
@@ -113,7 +113,7 @@ module _ (items : List Item) (call : Call) (rows : List Row) (body : List Stmt) 
         listing_fails items call rows body left statements.now after comes.0 comes.1 why (subst (λ setting. Stops why (stmts_listed items rows setting longest_chain statements.now after left)) own stops)
 
     pub reached_applies : (r : Result (List Effect) Stop) (changes : List Change) (now : ℕ) (new : List Row) → stmts_listed items rows setting longest_chain statements.now after left ≡ Done changes now
-        → AppliesAll r changes rows new → OnErr r (new ≡ rows) → EndsSo r (body_ended items call rows body) rows new
+        → AppliesAll r changes rows new → Stays r rows new → EndsSo r (body_ended items call rows body) rows new
     reached_applies r changes now new lists applies stays = let comes = comes_so (Ok (flow.Reached statements)) (subst (λ f. HasRun (Ok f)) is runs) in
         listing_applies items call rows body left statements.now after comes.0 comes.1 r changes now new (subst (λ setting. stmts_listed items rows setting longest_chain statements.now after left ≡ Done changes now) own lists)
         (ends_applied r changes rows new applies stays)

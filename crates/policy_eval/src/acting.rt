@@ -122,7 +122,9 @@ fn act<'a, F: FactBase, P: Desk<F>, L: Ledger>(
 {
     match s {
         Stmt::Let(one) => {
-            let found = value_of(alloc, known, &*facts, setting, LONGEST, env, turns, &one.value);
+            let found = value_of(
+                alloc, known, &*facts, setting, LONGEST, env, turns, &one.value,
+            );
             caused(let_in(env, &one.name, found))
         }
         Stmt::Check(e) => {
@@ -133,7 +135,17 @@ fn act<'a, F: FactBase, P: Desk<F>, L: Ledger>(
             let found = value_of(alloc, known, &*facts, setting, LONGEST, env, turns, &x.head);
             let holds = truth_of(found)?;
             if holds {
-                act_block(alloc, known, setting, facts, desk, steps, env, turns, x.then.as_slice())
+                act_block(
+                    alloc,
+                    known,
+                    setting,
+                    facts,
+                    desk,
+                    steps,
+                    env,
+                    turns,
+                    x.then.as_slice(),
+                )
             } else {
                 act_else(alloc, known, setting, facts, desk, steps, env, turns, x)
             }
@@ -146,7 +158,19 @@ fn act<'a, F: FactBase, P: Desk<F>, L: Ledger>(
         Stmt::Map(p, name, body) => {
             let found = wanted_of(alloc, known, &*facts, setting, LONGEST, env, turns, p);
             let rows = rows_of(alloc, &*facts, found)?;
-            act_rows(alloc, known, setting, facts, desk, steps, env, turns, name, body.as_slice(), rows)
+            act_rows(
+                alloc,
+                known,
+                setting,
+                facts,
+                desk,
+                steps,
+                env,
+                turns,
+                name,
+                body.as_slice(),
+                rows,
+            )
         }
         Stmt::Publish(e) => {
             let value = value_of(alloc, known, &*facts, setting, LONGEST, env, turns, e)?;
@@ -210,11 +234,31 @@ fn act_else<'a, F: FactBase, P: Desk<F>, L: Ledger>(
     match &x.otherwise {
         None => Ok(()),
         Some(Else::Block(body)) => {
-            act_block(alloc, known, setting, facts, desk, steps, env, turns, body.as_slice())
+            act_block(
+                alloc,
+                known,
+                setting,
+                facts,
+                desk,
+                steps,
+                env,
+                turns,
+                body.as_slice(),
+            )
         }
         Some(Else::If(s)) => {
             let outside = env.len();
-            act(alloc, known, setting, facts, desk, steps, env, turns, s.get())?;
+            act(
+                alloc,
+                known,
+                setting,
+                facts,
+                desk,
+                steps,
+                env,
+                turns,
+                s.get(),
+            )?;
             env.truncate(outside);
             Ok(())
         }

@@ -39,7 +39,9 @@ fn action_parts_of<'a>(item: &'a Item) -> Option<ActionBody<'a>>
 {
     match item {
         Item::Action {
-            parameters, body, ..
+            parameters,
+            body,
+            ..
         } => Some(ActionBody {
             parameters: parameters.as_slice(),
             body: body.as_slice(),
@@ -90,7 +92,9 @@ fn act_body<'a, F: FactBase, P: Desk<F>, L: Ledger>(
     let mut env = Env::of_parameters(alloc, parameters, values)?;
     let setting = Setting::of_action(device);
     let mut turns = TURNS;
-    act_block(alloc, known, &setting, facts, desk, steps, &mut env, &mut turns, body)
+    act_block(
+        alloc, known, &setting, facts, desk, steps, &mut env, &mut turns, body,
+    )
 }
 
 /// How an action ended, which wasn't stuck.
@@ -136,6 +140,8 @@ pub(crate) fn action_end<F: FactBase, P: Desk<F>, L: Ledger>(
     let known = Known::new(alloc, checked)?;
     let values = copy_values(alloc, args.as_slice())?;
     let (parameters, body) = (parts.parameters, parts.body);
-    let done = act_body(alloc, &known, device, facts, desk, steps, parameters, body, values);
+    let done = act_body(
+        alloc, &known, device, facts, desk, steps, parameters, body, values,
+    );
     end_of(done)
 }

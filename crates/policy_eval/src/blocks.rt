@@ -37,11 +37,15 @@ fn run_block<'a, F: FactBase>(
     let setting = Setting::of_command(call);
     let mut env = Env::new(alloc);
     let mut turns = TURNS;
-    match run_all(alloc, known, &*facts, &setting, LONGEST, &mut env, &mut turns, body)? {
+    match run_all(
+        alloc, known, &*facts, &setting, LONGEST, &mut env, &mut turns, body,
+    )? {
         Flow::Goes => Ok(Effects::new(alloc)),
         Flow::Returns(_) => Err(Stop::Stuck),
         Flow::Reached(statements) => {
-            let changes = listed(alloc, known, &*facts, &setting, &mut env, &mut turns, statements)?;
+            let changes = listed(
+                alloc, known, &*facts, &setting, &mut env, &mut turns, statements,
+            )?;
             apply_or_leave(alloc, changes, facts)
         }
     }

@@ -32,7 +32,16 @@ fn change<'a, F: FactBase>(
 {
     match s {
         FinishStmt::Create { fact, keys, values } => {
-            let keys = bound_values(alloc, known, facts, setting, LONGEST, env, turns, keys.as_slice())?;
+            let keys = bound_values(
+                alloc,
+                known,
+                facts,
+                setting,
+                LONGEST,
+                env,
+                turns,
+                keys.as_slice(),
+            )?;
             let values = values.as_slice();
             let found = bound_values(alloc, known, facts, setting, LONGEST, env, turns, values);
             create_of(alloc, known, fact, keys, values, found)
@@ -44,7 +53,16 @@ fn change<'a, F: FactBase>(
             update_of(alloc, known, &from.fact, old, to, found)
         }
         FinishStmt::Delete { fact, keys } => {
-            let found = bound_values(alloc, known, facts, setting, LONGEST, env, turns, keys.as_slice());
+            let found = bound_values(
+                alloc,
+                known,
+                facts,
+                setting,
+                LONGEST,
+                env,
+                turns,
+                keys.as_slice(),
+            );
             delete_of(known, fact, found)
         }
         FinishStmt::Emit(e) => {
@@ -72,7 +90,16 @@ fn list_one<'a, F: FactBase>(
 {
     match s {
         FinishStmt::Call(name, arguments) => {
-            let values = values_of(alloc, known, facts, setting, LONGEST, env, turns, arguments.as_slice())?;
+            let values = values_of(
+                alloc,
+                known,
+                facts,
+                setting,
+                LONGEST,
+                env,
+                turns,
+                arguments.as_slice(),
+            )?;
             list_call(alloc, known, facts, depth, turns, changes, name, values)
         }
         _ => {
@@ -117,7 +144,9 @@ fn finish_parts_of<'a>(item: &'a Item) -> Option<FinishCallee<'a>>
 {
     match item {
         Item::FinishFunction {
-            parameters, body, ..
+            parameters,
+            body,
+            ..
         } => Some(FinishCallee {
             parameters: parameters.as_slice(),
             body: body.as_slice(),
@@ -160,7 +189,17 @@ fn list_call<'a, F: FactBase>(
     let mut env = Env::of_parameters(alloc, callee.parameters, values)?;
     let setting = Setting::none();
     let body = callee.body;
-    list_all(alloc, known, facts, &setting, depth - 1, &mut env, turns, changes, body)
+    list_all(
+        alloc,
+        known,
+        facts,
+        &setting,
+        depth - 1,
+        &mut env,
+        turns,
+        changes,
+        body,
+    )
 }
 
 /// What a `finish` block lists.
@@ -176,6 +215,16 @@ pub(crate) fn listed<'a, F: FactBase>(
     ensures { Gives result turns.new (stmts_listed known.now (F.rows facts.now) setting.now longest_chain statements.now env.old turns.old) }
 {
     let mut changes = Changes::new(alloc);
-    list_all(alloc, known, facts, setting, LONGEST, env, turns, &mut changes, statements)?;
+    list_all(
+        alloc,
+        known,
+        facts,
+        setting,
+        LONGEST,
+        env,
+        turns,
+        &mut changes,
+        statements,
+    )?;
     Ok(changes)
 }

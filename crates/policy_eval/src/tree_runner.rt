@@ -70,6 +70,15 @@ impl Runner for TreeRunner {
         desk: &mut P,
         steps: &mut Steps<L>,
     ) -> Result<ActionEnd, NoMemory> {
-        action_end(alloc, &self.checked, action, args, device, facts, desk, steps)
+        action_end(
+            alloc,
+            &self.checked,
+            action,
+            args,
+            device,
+            facts,
+            desk,
+            steps,
+        )
     }
 }

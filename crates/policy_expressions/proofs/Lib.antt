@@ -7,3 +7,4 @@ mod ChangeFacts
 mod PlaceFacts
 mod DistinctFacts
 mod GapFacts
+mod FewWrites

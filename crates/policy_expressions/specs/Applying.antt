@@ -1,9 +1,9 @@
 -- What the changes of a block make of the facts, one after another.
-use Rattle.std.specs.Prelude.{◌≡◌, List, [], ◌∷◌, Result, Ok, Err, None, ⊤}
+use Rattle.std.specs.Prelude.{ℕ, ◌+◌, Bool, true, false, if◌then◌else◌, ◌≡◌, List, [], ◌∷◌, Result, Ok, Err, None, ⊤}
 use Rattle.fact_store.specs.Writes.{Outcome}
 use Rattle.fact_store.specs.declared.row.Row.{Row}
 use Rattle.policy_meaning.specs.Applying.{Checks, Ended, Faults, Passes, Sticks, applied, with_effect, written}
-use Rattle.policy_meaning.specs.Finish.{Change}
+use Rattle.policy_meaning.specs.Finish.{Change, Create, Delete, Emit, Update}
 use Rattle.policy_meaning.specs.declared.effect.Effect.{Effect}
 use Rattle.policy_expressions.specs.declared.stop.Stop.{Stop}
 use Rattle.policy_expressions.specs.declared.stop.Stop.TheVariants as stop
@@ -34,3 +34,22 @@ AppliesAll (Err why) changes old new = EndsBlock why (applied changes old)
 abbrev pub AppliesWrite : {A : Type 0} → Result A Stop → Outcome → List Row → List Row → Type 0
 AppliesWrite (Ok done) outcome old new = outcome ≡ Ok new
 AppliesWrite (Err why) outcome old new = (new ≡ old) × ((next : List Row → Ended) → EndsBlock why (written outcome next))
+
+-- A change of the facts.
+abbrev pub is_write : Change → Bool
+is_write (Create row) = true
+is_write (Update old values) = true
+is_write (Delete fact keys) = true
+is_write (Emit e) = false
+
+abbrev pub write_count : List Change → ℕ
+write_count [] = 0
+write_count (c ∷ changes) = (if is_write c then 1 else 0) + write_count changes
+
+-- The facts are as before where a block ends with a change. Out of memory says nothing.
+abbrev pub Stays : {A : Type 0} → Result A Stop → List Row → List Row → Type 0
+Stays (Ok done) old new = ⊤
+Stays (Err stop.Check) old new = new ≡ old
+Stays (Err (stop.Fault kind)) old new = new ≡ old
+Stays (Err stop.Stuck) old new = new ≡ old
+Stays (Err stop.NoMemory) old new = ⊤

@@ -2,3 +2,4 @@
 pub mod Orders
 pub mod Places
 pub mod Gaps
+pub mod FewWrites

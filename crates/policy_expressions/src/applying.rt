@@ -1,10 +1,10 @@
 //! What writes make of the facts.
 
-ghost use Rattle.std.specs.Prelude.{◌≡◌, List, OnErr};
+ghost use Rattle.std.specs.Prelude.{◌≡◌, ◌≤◌, List, OnErr};
 ghost use Rattle.fact_store.specs.Writes.{Outcome, Writes};
 ghost use Rattle.fact_store.specs.declared.row.Row.{Row};
 ghost use Rattle.policy_meaning.specs.Finish.{Change as Meant};
-ghost use Rattle.policy_expressions.specs.Applying.{Applies, AppliesAll, AppliesWrite};
+ghost use Rattle.policy_expressions.specs.Applying.{Applies, AppliesAll, AppliesWrite, Stays, write_count};
 
 use crate::change::{Change, Changes, Listed};
 use crate::stop::{Answer, Stop};
@@ -55,12 +55,32 @@ pub fn apply_all<F: FactBase>(alloc: Global, changes: Changes, facts: &mut F) ->
     Ok(effects)
 }
 
-/// Makes all changes in order, and answers the effects. After any other answer the facts are as they were.
-pub fn apply_or_leave<F: FactBase>(
-    alloc: Global,
-    changes: Changes,
-    facts: &mut F,
-) -> Answer<Effects>
+/// How many of the changes are writes.
+fn write_count(changes: &[Change]) -> usize
+    ensures { result ≡ write_count changes.now }
+{
+    let mut count = 0;
+    for change in changes {
+        count += change.writes();
+    }
+    count
+}
+
+/// Makes changes of which at most one is a write. Where one ends the block, nothing was written.
+fn apply_few<F: FactBase>(alloc: Global, changes: Changes, facts: &mut F) -> Answer<Effects>
+    requires few { write_count changes ≤ 1 }
+    ensures ends { AppliesAll result changes (F.rows facts.old) (F.rows facts.new) }
+    ensures rows { Stays result (F.rows facts.old) (F.rows facts.new) }
+{
+    let mut effects = Effects::new(alloc);
+    for change in changes.into_vec() {
+        apply(alloc, change, facts, &mut effects)?;
+    }
+    Ok(effects)
+}
+
+/// Makes changes on a copy, which takes the place of the facts once all are made.
+fn apply_many<F: FactBase>(alloc: Global, changes: Changes, facts: &mut F) -> Answer<Effects>
     ensures ends { AppliesAll result changes (F.rows facts.old) (F.rows facts.new) }
     ensures rows { OnErr result (F.rows facts.new ≡ F.rows facts.old) }
 {
@@ -68,4 +88,21 @@ pub fn apply_or_leave<F: FactBase>(
     let effects = apply_all(alloc, changes, &mut changed)?;
     *facts = changed;
     Ok(effects)
+}
+
+/// Makes all changes in order, and answers the effects. Where one of them ends the block, the facts are as they were; without memory they are open.
+/// The facts are copied where there are two or more writes.
+pub fn apply_or_leave<F: FactBase>(
+    alloc: Global,
+    changes: Changes,
+    facts: &mut F,
+) -> Answer<Effects>
+    ensures ends { AppliesAll result changes (F.rows facts.old) (F.rows facts.new) }
+    ensures rows { Stays result (F.rows facts.old) (F.rows facts.new) }
+{
+    if write_count(changes.as_slice()) <= 1 {
+        apply_few(alloc, changes, facts)
+    } else {
+        apply_many(alloc, changes, facts)
+    }
 }

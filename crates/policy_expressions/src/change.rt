@@ -1,6 +1,7 @@
-ghost use Rattle.std.specs.Prelude.{◌≡◌, [], ◌∷◌, ◌++◌, IsTrue, OnErr, OnOk};
+ghost use Rattle.std.specs.Prelude.{◌≡◌, ◌≤◌, [], ◌∷◌, ◌++◌, if◌then◌else◌, IsTrue, OnErr, OnOk};
 ghost use Rattle.fact_store.specs.Rows.{are_keys};
 ghost use Rattle.policy_meaning.specs.Finish.{Create, Delete, Emit, Update};
+ghost use Rattle.policy_expressions.specs.Applying.{is_write};
 ghost use Rattle.policy_expressions.specs.Changes.{HasKeys, meant};
 
 use base_bytes::{NoMemory, Values};
@@ -75,6 +76,19 @@ impl Change {
         }
     }
 
+    /// 1 where it is a write.
+    pub(crate) fn writes(&self) -> usize
+        ensures count { result ≡ (if is_write self.now then 1 else 0) }
+        ensures few { result ≤ 1 }
+    {
+        match &self.listed {
+            Listed::Create(_) => 1,
+            Listed::Update(_, _) => 1,
+            Listed::Delete(_, _) => 1,
+            Listed::Emit(_) => 0,
+        }
+    }
+
     pub(crate) fn into_listed(self) -> Listed
         ensures change { meant result ≡ self }
         ensures keys { HasKeys result }
@@ -120,6 +134,12 @@ impl Changes {
     {
         self.changes.push(change)?;
         Ok(())
+    }
+
+    pub(crate) fn as_slice(&self) -> &[Change]
+        ensures { result.now ≡ self.now }
+    {
+        self.changes.as_slice()
     }
 
     pub(crate) fn into_vec(self) -> Vec<Change>

@@ -49,9 +49,26 @@ act-returns-in_err-holds-in-If-clause-acts g t c =
 pub act-act_block-requires : goal.act-act_block-requires
 act-act_block-requires g t c κs within =
     let e = ap deed_room c.in-If.is ∙ choice_room c.in-If.x in
-    let b = ap deeds_room c.as_slice.ensures in
-    (omega (arith, e, b), (within.0, (within.1.0, (within.1.1, (c.requires.policy, (c.requires.typed, then_goes g.P.Desk.publishes (g.P.Desk.policy c.args.desk.now) c.args.known.now c.args.setting.now c.args.s.now c.args.env.now c.args.desk.now (g.F.FactBase.rows c.args.facts.now) c.args.turns.now c.args.steps.now c.requires.typed
-    c.in-If.x c.in-If.is c.value_of-found-in-If.result c.value_of-found-in-If.new.env c.value_of-found-in-If.new.turns c.value_of-found-in-If.ensures (Ok c.in_ok-holds-in-If.holds) c.in_ok-holds-in-If.ensures (ap Ok c.if-holds.true) c.as_slice.result.now c.as_slice.ensures c.requires.goes))))))
+    let b = ap deeds_room c.as_slice.ensures in (
+      omega (arith, e, b),
+      (
+        within.0,
+        (
+          within.1.0,
+          (
+            within.1.1,
+            (
+              c.requires.policy,
+              (
+                c.requires.typed,
+                then_goes g.P.Desk.publishes (g.P.Desk.policy c.args.desk.now) c.args.known.now c.args.setting.now c.args.s.now c.args.env.now c.args.desk.now (g.F.FactBase.rows c.args.facts.now) c.args.turns.now c.args.steps.now c.requires.typed
+                    c.in-If.x c.in-If.is c.value_of-found-in-If.result c.value_of-found-in-If.new.env c.value_of-found-in-If.new.turns c.value_of-found-in-If.ensures (Ok c.in_ok-holds-in-If.holds) c.in_ok-holds-in-If.ensures (ap Ok c.if-holds.true) c.as_slice.result.now c.as_slice.ensures c.requires.goes,
+              ),
+            ),
+          ),
+        ),
+      ),
+    )
 
 pub act-returns-then-holds-clause-acts : goal.act-returns-then-holds-clause-acts
 act-returns-then-holds-clause-acts g t c =
@@ -64,9 +81,26 @@ act-returns-then-holds-clause-kept g t c =
 
 pub act-act_else-requires : goal.act-act_else-requires
 act-act_else-requires g t c κs within =
-    let e = ap deed_room c.in-If.is ∙ choice_room c.in-If.x in
-    (omega (arith, e), (within.0, (within.1.0, (within.1.1, (c.requires.policy, (c.requires.typed, else_goes g.P.Desk.publishes (g.P.Desk.policy c.args.desk.now) c.args.known.now c.args.setting.now c.args.s.now c.args.env.now c.args.desk.now (g.F.FactBase.rows c.args.facts.now) c.args.turns.now c.args.steps.now c.requires.typed
-    c.in-If.x c.in-If.is c.value_of-found-in-If.result c.value_of-found-in-If.new.env c.value_of-found-in-If.new.turns c.value_of-found-in-If.ensures (Ok c.in_ok-holds-in-If.holds) c.in_ok-holds-in-If.ensures (ap Ok c.if-holds.false) c.requires.goes))))))
+    let e = ap deed_room c.in-If.is ∙ choice_room c.in-If.x in (
+      omega (arith, e),
+      (
+        within.0,
+        (
+          within.1.0,
+          (
+            within.1.1,
+            (
+              c.requires.policy,
+              (
+                c.requires.typed,
+                else_goes g.P.Desk.publishes (g.P.Desk.policy c.args.desk.now) c.args.known.now c.args.setting.now c.args.s.now c.args.env.now c.args.desk.now (g.F.FactBase.rows c.args.facts.now) c.args.turns.now c.args.steps.now c.requires.typed
+                    c.in-If.x c.in-If.is c.value_of-found-in-If.result c.value_of-found-in-If.new.env c.value_of-found-in-If.new.turns c.value_of-found-in-If.ensures (Ok c.in_ok-holds-in-If.holds) c.in_ok-holds-in-If.ensures (ap Ok c.if-holds.false) c.requires.goes,
+              ),
+            ),
+          ),
+        ),
+      ),
+    )
 
 pub act-returns-else-holds-clause-acts : goal.act-returns-else-holds-clause-acts
 act-returns-else-holds-clause-acts g t c =
@@ -89,9 +123,26 @@ pub act-act_block-requires-in-Match : goal.act-act_block-requires-in-Match
 act-act_block-requires-in-Match g t c κs within =
     let is : c.args.s.now ≡ stmt.Match c.in-Match.e c.as_slice-in-Match.result.now = rw c.as_slice-in-Match.ensures c.in-Match.is in
     let e = ap deed_room is ∙ match_room c.in-Match.e c.as_slice-in-Match.result.now in
-    let le = c.in_ok-body-in-Match.ensures.within in
-    (omega (arith, e, le), (within.0, (within.1.0, (within.1.1, (c.requires.policy, (c.requires.typed, match_goes g.P.Desk.publishes (g.P.Desk.policy c.args.desk.now) c.args.known.now c.args.setting.now c.args.s.now c.args.env.now c.args.desk.now (g.F.FactBase.rows c.args.facts.now) c.args.turns.now c.args.steps.now c.requires.typed
-    c.in-Match.e c.as_slice-in-Match.result.now is c.value_of-found-in-Match.result c.value_of-found-in-Match.new.env c.value_of-found-in-Match.new.turns c.value_of-found-in-Match.ensures (Ok c.in_ok-body-in-Match.body) c.in_ok-body-in-Match.ensures.gives c.in_ok-body-in-Match.body refl c.requires.goes))))))
+    let le = c.in_ok-body-in-Match.ensures.within in (
+      omega (arith, e, le),
+      (
+        within.0,
+        (
+          within.1.0,
+          (
+            within.1.1,
+            (
+              c.requires.policy,
+              (
+                c.requires.typed,
+                match_goes g.P.Desk.publishes (g.P.Desk.policy c.args.desk.now) c.args.known.now c.args.setting.now c.args.s.now c.args.env.now c.args.desk.now (g.F.FactBase.rows c.args.facts.now) c.args.turns.now c.args.steps.now c.requires.typed
+                    c.in-Match.e c.as_slice-in-Match.result.now is c.value_of-found-in-Match.result c.value_of-found-in-Match.new.env c.value_of-found-in-Match.new.turns c.value_of-found-in-Match.ensures (Ok c.in_ok-body-in-Match.body) c.in_ok-body-in-Match.ensures.gives c.in_ok-body-in-Match.body refl c.requires.goes,
+              ),
+            ),
+          ),
+        ),
+      ),
+    )
 
 pub act-returns-in_ok-body-in-Match-clause-acts : goal.act-returns-in_ok-body-in-Match-clause-acts
 act-returns-in_ok-body-in-Match-clause-acts g t c =
@@ -113,9 +164,26 @@ act-returns-in_err-rows-in-Map-clause-acts g t c =
 pub act-act_rows-requires : goal.act-act_rows-requires
 act-act_rows-requires g t c κs within =
     let e = ap deed_room c.in-Map.is ∙ map_room c.in-Map.p c.in-Map.name c.in-Map.body in
-    let b = ap deeds_room c.as_slice-in-Map.ensures in
-    (omega (arith, e, b), (within.0, (within.1.0, (within.1.1, (c.requires.policy, (c.requires.typed, map_goes g.P.Desk.publishes (g.P.Desk.policy c.args.desk.now) c.args.known.now c.args.setting.now c.args.s.now c.args.env.now c.args.desk.now (g.F.FactBase.rows c.args.facts.now) c.args.turns.now c.args.steps.now c.requires.typed
-    c.in-Map.p c.in-Map.name c.in-Map.body c.in-Map.is c.wanted_of-found.result c.wanted_of-found.new.env c.wanted_of-found.new.turns c.wanted_of-found.ensures.gives (Ok c.in_ok-rows-in-Map.rows) c.in_ok-rows-in-Map.ensures c.in_ok-rows-in-Map.rows refl c.as_slice-in-Map.result.now c.as_slice-in-Map.ensures c.requires.goes))))))
+    let b = ap deeds_room c.as_slice-in-Map.ensures in (
+      omega (arith, e, b),
+      (
+        within.0,
+        (
+          within.1.0,
+          (
+            within.1.1,
+            (
+              c.requires.policy,
+              (
+                c.requires.typed,
+                map_goes g.P.Desk.publishes (g.P.Desk.policy c.args.desk.now) c.args.known.now c.args.setting.now c.args.s.now c.args.env.now c.args.desk.now (g.F.FactBase.rows c.args.facts.now) c.args.turns.now c.args.steps.now c.requires.typed
+                    c.in-Map.p c.in-Map.name c.in-Map.body c.in-Map.is c.wanted_of-found.result c.wanted_of-found.new.env c.wanted_of-found.new.turns c.wanted_of-found.ensures.gives (Ok c.in_ok-rows-in-Map.rows) c.in_ok-rows-in-Map.ensures c.in_ok-rows-in-Map.rows refl c.as_slice-in-Map.result.now c.as_slice-in-Map.ensures c.requires.goes,
+              ),
+            ),
+          ),
+        ),
+      ),
+    )
 
 pub act-returns-in_ok-rows-in-Map-clause-acts : goal.act-returns-in_ok-rows-in-Map-clause-acts
 act-returns-in_ok-rows-in-Map-clause-acts g t c =
@@ -162,9 +230,25 @@ act_block-loop-s-init g t c =
 pub act_block-act-requires : goal.act_block-act-requires
 act_block-act-requires g t c κs within =
     let inv = c.loop-s.invariant in
-    let le = within_total deed_room c.args.body.now c.loop-s.s-index c.s-item.result c.loop-s-test.true c.s-item.is in
-    (omega (arith, le), (within.0, (within.1.0, (within.1.1, (ap items_of inv.policy ∙ c.requires.policy, (subst (λ policy. AreTyped policy (g.F.FactBase.rows c.loop-s.facts)) (sym inv.policy) inv.so_far.acted.typed,
-        subst (λ policy. GoesWell policy (deed c.args.known.now c.args.setting.now c.s-item.result c.loop-s.env) (g.F.FactBase.rows c.loop-s.facts) c.loop-s.turns) (sym inv.policy) (block_goes g.P.Desk.publishes (g.P.Desk.policy c.args.desk.now) c.args.known.now c.args.setting.now c.args.body.now c.args.env.now inv.so_far c.s-item.result c.loop-s-test.true c.s-item.is c.requires.goes)))))))
+    let le = within_total deed_room c.args.body.now c.loop-s.s-index c.s-item.result c.loop-s-test.true c.s-item.is in (
+      omega (arith, le),
+      (
+        within.0,
+        (
+          within.1.0,
+          (
+            within.1.1,
+            (
+              ap items_of inv.policy ∙ c.requires.policy,
+              (
+                subst (λ policy. AreTyped policy (g.F.FactBase.rows c.loop-s.facts)) (sym inv.policy) inv.so_far.acted.typed,
+                subst (λ policy. GoesWell policy (deed c.args.known.now c.args.setting.now c.s-item.result c.loop-s.env) (g.F.FactBase.rows c.loop-s.facts) c.loop-s.turns) (sym inv.policy) (block_goes g.P.Desk.publishes (g.P.Desk.policy c.args.desk.now) c.args.known.now c.args.setting.now c.args.body.now c.args.env.now inv.so_far c.s-item.result c.loop-s-test.true c.s-item.is c.requires.goes),
+              ),
+            ),
+          ),
+        ),
+      ),
+    )
 
 pub act_block-loop-s-preserved : goal.act_block-loop-s-preserved
 act_block-loop-s-preserved g t c =
@@ -249,9 +333,25 @@ pub act_rows-act_block-requires : goal.act_rows-act_block-requires
 act_rows-act_block-requires g t c κs within =
     let inv = c.loop-row.invariant in
     let so_far = subst (λ left. RowsSoFar g.P.Desk.publishes (g.P.Desk.policy c.args.desk.now) c.args.known.now c.args.setting.now c.args.name.now c.args.body.now c.args.rows.items left c.args.env.now c.loop-row.env (standing c.args.desk.now (g.F.FactBase.rows c.args.facts.now) c.args.turns.now c.args.steps.now) (standing c.loop-row.desk (g.F.FactBase.rows c.loop-row.facts) c.loop-row.turns c.loop-row.steps)) c.in-Some.ensures.steps.0 inv.so_far in
-    let entered = subst (λ env. row_entered c.args.name.now env c.in-Some.row c.loop-row.turns ≡ Done c.enter_row.new.env c.enter_row.new.turns) inv.so_far.same c.in_ok-enter_row.ensures.gives in
-    (omega arith, (within.0, (within.1.0, (within.1.1, (ap items_of inv.policy ∙ c.requires.policy, (subst (λ policy. AreTyped policy (g.F.FactBase.rows c.loop-row.facts)) (sym inv.policy) inv.so_far.acted.typed,
-        subst (λ policy. GoesWell policy (inside (deeds c.args.known.now c.args.setting.now c.args.body.now) c.enter_row.new.env) (g.F.FactBase.rows c.loop-row.facts) c.enter_row.new.turns) (sym inv.policy) (row_goes g.P.Desk.publishes (g.P.Desk.policy c.args.desk.now) c.args.known.now c.args.setting.now c.args.name.now c.args.body.now c.args.rows.items c.args.env.now so_far c.enter_row.new.turns c.enter_row.new.env entered c.requires.goes)))))))
+    let entered = subst (λ env. row_entered c.args.name.now env c.in-Some.row c.loop-row.turns ≡ Done c.enter_row.new.env c.enter_row.new.turns) inv.so_far.same c.in_ok-enter_row.ensures.gives in (
+      omega arith,
+      (
+        within.0,
+        (
+          within.1.0,
+          (
+            within.1.1,
+            (
+              ap items_of inv.policy ∙ c.requires.policy,
+              (
+                subst (λ policy. AreTyped policy (g.F.FactBase.rows c.loop-row.facts)) (sym inv.policy) inv.so_far.acted.typed,
+                subst (λ policy. GoesWell policy (inside (deeds c.args.known.now c.args.setting.now c.args.body.now) c.enter_row.new.env) (g.F.FactBase.rows c.loop-row.facts) c.enter_row.new.turns) (sym inv.policy) (row_goes g.P.Desk.publishes (g.P.Desk.policy c.args.desk.now) c.args.known.now c.args.setting.now c.args.name.now c.args.body.now c.args.rows.items c.args.env.now so_far c.enter_row.new.turns c.enter_row.new.env entered c.requires.goes),
+              ),
+            ),
+          ),
+        ),
+      ),
+    )
 
 pub act_rows-returns-in_err-act_block-clause-acts : goal.act_rows-returns-in_err-act_block-clause-acts
 act_rows-returns-in_err-act_block-clause-acts g t c =

@@ -16,7 +16,7 @@ pub returns-clause-acts : goal.returns-clause-acts
 returns-clause-acts g c =
     body_on c.args.known.now c.args.device.now c.args.values (c.args.parameters.now, c.args.body.now) g.P.Desk.publishes (g.P.Desk.policy c.args.desk.now) (g.F.FactBase.rows c.args.facts.now) c.requires.typed c.args.desk.now c.args.steps.now c.act_block.result c.act_block.new.env c.act_block.new.desk (g.F.FactBase.rows c.act_block.new.facts) c.act_block.new.turns c.act_block.new.steps
     (subst (λ env. Acts g.P.Desk.publishes (g.P.Desk.policy c.args.desk.now) c.act_block.result c.act_block.new.env (inside (deeds c.args.known.now (action_setting c.args.device.now) c.args.body.now) env)
-        (standing c.args.desk.now (g.F.FactBase.rows c.args.facts.now) most_turns c.args.steps.now) (standing c.act_block.new.desk (g.F.FactBase.rows c.act_block.new.facts) c.act_block.new.turns c.act_block.new.steps)) c.in_ok-env.ensures
+    (standing c.args.desk.now (g.F.FactBase.rows c.args.facts.now) most_turns c.args.steps.now) (standing c.act_block.new.desk (g.F.FactBase.rows c.act_block.new.facts) c.act_block.new.turns c.act_block.new.steps)) c.in_ok-env.ensures
     (subst (λ setting. Acts g.P.Desk.publishes (g.P.Desk.policy c.args.desk.now) c.act_block.result c.act_block.new.env (inside (deeds c.args.known.now setting c.args.body.now) c.in_ok-env.env)
-        (standing c.args.desk.now (g.F.FactBase.rows c.args.facts.now) most_turns c.args.steps.now) (standing c.act_block.new.desk (g.F.FactBase.rows c.act_block.new.facts) c.act_block.new.turns c.act_block.new.steps)) c.of_action-setting.ensures
+    (standing c.args.desk.now (g.F.FactBase.rows c.args.facts.now) most_turns c.args.steps.now) (standing c.act_block.new.desk (g.F.FactBase.rows c.act_block.new.facts) c.act_block.new.turns c.act_block.new.steps)) c.of_action-setting.ensures
     c.act_block.ensures.acts))

@@ -42,7 +42,7 @@ list_call-returns g t c =
     (kept_parts c.in-Some.callee) (sym c.finish_parts.ensures ∙ ap (option_map kept_parts) c.in-Some.is) c.list_all.result c.list_all.new.changes c.in_ok-env.env c.take_turn.new.turns c.list_all.new.turns
     c.in_ok-take_turn.ensures c.in_ok-env.ensures
     (subst (λ setting. Leaves c.list_all.result c.list_all.new.changes c.list_all.new.turns
-        (behind c.args.changes.now (stmts_listed c.args.known.now (g.F.FactBase.rows c.args.facts.now) setting (c.args.depth - 1) c.in-Some.callee.body.now c.in_ok-env.env c.take_turn.new.turns)))
+    (behind c.args.changes.now (stmts_listed c.args.known.now (g.F.FactBase.rows c.args.facts.now) setting (c.args.depth - 1) c.in-Some.callee.body.now c.in_ok-env.env c.take_turn.new.turns)))
     c.none-setting.ensures c.list_all.ensures.lists)
 
 pub list_one-returns-in_err-values-in-Call-clause-lists : goal.list_one-returns-in_err-values-in-Call-clause-lists
