@@ -1,8 +1,8 @@
 -- Entries that are cut and followed by those of the new run.
-use Rattle.std.proofs.Common.{◌≡◌, ℕ, ◌≤◌, List, [], ◌∷◌, ◌++◌, length, take, drop, sym, ap, ◌∙◌}
+use Rattle.std.proofs.Common.{◌≡◌, ℕ, List, [], ◌∷◌, ◌++◌, take, drop, sym, ap, ◌∙◌}
 use Rattle.std.proofs.lemmas.List.{take-append-drop}
 use Rattle.braid.proofs.Agreement.{one_braid}
-use Rattle.braid_run.specs.Batches.{AreChanges, Change, IsBatch, all_followed, commands_behind, followed}
+use Rattle.braid_run.specs.Batches.{AreChanges, Change, IsBatch, IsCommonPrefix, all_followed, commands_behind, followed}
 use Rattle.braid_run.specs.RunOf.{AreEntriesOf}
 use Rattle.braid_run.specs.Runs.{run_of}
 use Rattle.braid_run.specs.declared.entry.Entry.{Entry}
@@ -13,11 +13,11 @@ use Rattle.policy_ast.specs.declared.policy.PlacedItem.{PlacedItem}
 
 module _ (policy : List PlacedItem) where
   -- the entries up to where two braids agree, and those of the new run from there on
-  pub entries_on : (before now : List Command) (cut : ℕ) → cut ≤ length before → cut ≤ length now → take cut before ≡ take cut now →
+  pub entries_on : (before now : List Command) (cut : ℕ) → IsCommonPrefix before now cut →
       take cut (run_of policy before).entries ++ drop cut (run_of policy now).entries ≡ (run_of policy now).entries
-  entries_on before now cut old new alike =
+  entries_on before now cut common =
       ap (λ es. es ++ drop cut (run_of policy now).entries)
-      (first_entries policy cut before old ∙ ap (λ cs. (run_of policy cs).entries) alike ∙ sym (first_entries policy cut now new))
+      (first_entries policy cut before common.within.0 ∙ ap (λ cs. (run_of policy cs).entries) common.alike ∙ sym (first_entries policy cut now common.within.1))
       ∙ take-append-drop cut (run_of policy now).entries
 
   follow_one : (old : List Command) (entries : List Entry) (change : Change) → IsClosed old → AreEntriesOf policy old entries → IsBatch policy old change.commands change.batch →
@@ -29,7 +29,7 @@ module _ (policy : List PlacedItem) where
         ap (λ es. take change.batch.cut es ++ change.batch.entries)
         (has.same_entries ∙ ap (λ braid. (run_of policy braid).entries) (one_braid old closed (λ x. Unit {0}) has.braid batch.before has.is batch.was))
         ∙ ap (λ es. take change.batch.cut (run_of policy batch.before).entries ++ es) batch.same_entries
-        ∙ entries_on batch.before batch.now change.batch.cut batch.cuts.within.0 batch.cuts.within.1 batch.cuts.alike;
+        ∙ entries_on batch.before batch.now change.batch.cut batch.cuts.common;
   }
 
   pub follow_all : (old : List Command) (entries : List Entry) (changes : List Change) → IsClosed old → AreEntriesOf policy old entries → AreChanges policy old changes →

@@ -4,7 +4,7 @@ use Rattle.std.specs.List.{Contains}
 use Rattle.braid.proofs.Agreement.{one_braid}
 use Rattle.braid.proofs.Existence.{some_braid}
 use Rattle.braid.proofs.Gathering.{place_of_member}
-use Rattle.braid_run.specs.Batches.{IsCut}
+use Rattle.braid_run.specs.Batches.{IsCommonPrefix, IsCut}
 use Rattle.braid_run.specs.Laws.{HasOneBatch}
 use Rattle.braid_run.specs.Runs.{run_of}
 use Rattle.command.specs.Closed.{IsClosed}
@@ -27,13 +27,13 @@ known_one x y formed also =
       | inr differ ↦ inr (λ one. differ (ap wire one))
     ]
 
-none_in_common : (xs ys : List Command) → ((n : ℕ) → n ≤ length xs → n ≤ length ys → take n xs ≡ take n ys → n ≤ 0) → IsCut xs ys 0
-none_in_common xs ys longest = record { within = (omega arith, omega arith); alike = refl; longest = longest }
+none_in_common : (xs ys : List Command) → ((n : ℕ) → IsCommonPrefix xs ys n → n ≤ 0) → IsCut xs ys 0
+none_in_common xs ys longest = record { common = record { within = (omega arith, omega arith); alike = refl }; longest = longest }
 
 -- where two lists part
 some_cut : (xs ys : List Command) → ((x y : Command) → Contains xs x → Contains ys y → Known (x ≡ y)) → (cut : ℕ) × IsCut xs ys cut
-some_cut [] ys known = (0, none_in_common [] ys (λ n within other alike. within))
-some_cut (x ∷ xs) [] known = (0, none_in_common (x ∷ xs) [] (λ n within other alike. other))
+some_cut [] ys known = (0, none_in_common [] ys (λ n is. is.within.0))
+some_cut (x ∷ xs) [] known = (0, none_in_common (x ∷ xs) [] (λ n is. is.within.1))
 some_cut (x ∷ xs) (y ∷ ys) known =
     elim (known x y (at_head x xs) (at_head y ys)) [
       | inl same ↦ let rest = some_cut xs ys (λ a b h k. known a b (behind_head x xs a h) (behind_head y ys b k)) in (suc rest.0, one_more rest.0 rest.1 same)
@@ -42,25 +42,28 @@ some_cut (x ∷ xs) (y ∷ ys) known =
   where
     one_more : (cut : ℕ) → IsCut xs ys cut → x ≡ y → IsCut (x ∷ xs) (y ∷ ys) (suc cut)
     one_more cut is same = record {
-      within = (omega (arith, is.within), omega (arith, is.within));
-      alike = ap (λ l. x ∷ l) is.alike ∙ ap (λ z. z ∷ take cut ys) same;
+      common = record {
+        within = (omega (arith, is.common.within), omega (arith, is.common.within));
+        alike = ap (λ l. x ∷ l) is.common.alike ∙ ap (λ z. z ∷ take cut ys) same;
+      };
       longest = further;
     }
       where
-        further : (n : ℕ) → n ≤ length (x ∷ xs) → n ≤ length (y ∷ ys) → take n (x ∷ xs) ≡ take n (y ∷ ys) → n ≤ suc cut
-        further zero within other alike = omega arith
-        further (suc n) within other alike =
+        further : (n : ℕ) → IsCommonPrefix (x ∷ xs) (y ∷ ys) n → n ≤ suc cut
+        further zero also = omega arith
+        further (suc n) also =
+            let heads = also.alike in
             let tails : take n xs ≡ take n ys = cc in
-            let most = is.longest n (omega (arith, within)) (omega (arith, other)) tails in omega (arith, most)
+            let most = is.longest n (record { within = (omega (arith, also.within), omega (arith, also.within)); alike = tails }) in omega (arith, most)
 
-    differs : (x ≡ y → ⊥) → (n : ℕ) → n ≤ length (x ∷ xs) → n ≤ length (y ∷ ys) → take n (x ∷ xs) ≡ take n (y ∷ ys) → n ≤ 0
-    differs differ zero within other alike = omega arith
-    differs differ (suc n) within other alike = let heads : x ≡ y = cc in absurd (differ heads)
+    differs : (x ≡ y → ⊥) → (n : ℕ) → IsCommonPrefix (x ∷ xs) (y ∷ ys) n → n ≤ 0
+    differs differ zero also = omega arith
+    differs differ (suc n) also = let alike = also.alike in let heads : x ≡ y = cc in absurd (differ heads)
 
 one_cut : (xs ys : List Command) (a b : ℕ) → IsCut xs ys a → IsCut xs ys b → a ≡ b
 one_cut xs ys a b first second =
-    let le = second.longest a first.within.0 first.within.1 first.alike in
-    let ge = first.longest b second.within.0 second.within.1 second.alike in omega (arith, le, ge)
+    let le = second.longest a first.common in
+    let ge = first.longest b second.common in omega (arith, le, ge)
 
 pub one_batch : (policy : List PlacedItem) (old new : List Command) → IsClosed old → IsClosed new → HasOneBatch policy old new
 one_batch policy old new closed also = record {

@@ -44,7 +44,7 @@ begins_with policy cs f braid part rest closure begins = record {
   rest = rest;
   closure = closure;
   begins = begins;
-  goes_on = ap (run_of policy) begins ∙ run_append policy no_run part rest;
+  continues = ap (run_of policy) begins ∙ run_append policy no_run part rest;
   entries =
       let within : length part ≤ length braid = subst (λ l. length part ≤ length l) (sym begins) (omega (arith, length-append part rest)) in
       first_entries policy (length part) braid within ∙ ap (λ l. (run_of policy (take (length part) l)).entries) begins ∙ ap (λ l. (run_of policy l).entries) (take-append_seam part rest);

@@ -9,7 +9,7 @@ use Rattle.braid.proofs.Carrying.{in_one_list, same_braids}
 use Rattle.braid.proofs.Closures.{closures}
 use Rattle.braid.proofs.Existence.{some_braid}
 use Rattle.braid.proofs.Gathering.{place_of_member}
-use Rattle.braid_run.specs.Laws.{HasPlace, PlaceStays}
+use Rattle.braid_run.specs.Laws.{HasPlaceFacts, PlaceFactsStay}
 use Rattle.braid_run.specs.Places.{AreAtPlace, IsBehind, parent_places}
 use Rattle.braid_run.specs.Runs.{run_of}
 use Rattle.command.specs.Ancestors.{IsUnder}
@@ -80,8 +80,8 @@ module _ (cs : List Command) (closed : IsClosed cs) (c : Command) where
       let braid = some_braid part.0 part.1.closed in
       (braid.0, (under_parents braid.0).1 (((closures cs closed).own tips part.0 part.1 braid.0).0 braid.1))
 
-  pub has_place : (policy : List PlacedItem) → HasPlace policy cs c
-  has_place policy = record {
+  pub has_place_facts : (policy : List PlacedItem) → HasPlaceFacts policy cs c
+  has_place_facts policy = record {
     some = ((run_of policy braid_behind.0).rows, record { braid = braid_behind.0; is = braid_behind.1; same_rows = refl });
     one = λ rows others one other.
         one.same_rows ∙ ap (λ braid. (run_of policy braid).rows) (one_braid cs closed (IsBehind cs c) one.braid other.braid one.is other.is) ∙ sym other.same_rows;
@@ -134,5 +134,5 @@ module _ (cs more : List Command) (longer : IsClosed (cs ++ more)) (c : Command)
   pub place_after : (policy : List PlacedItem) (rows : List Row) → AreAtPlace policy cs c rows → AreAtPlace policy (cs ++ more) c rows
   place_after policy rows at = record { braid = at.braid; is = (braid_stays at.braid).0 at.is; same_rows = at.same_rows }
 
-pub place_stays : (policy : List PlacedItem) (cs : List Command) (c : Command) → ((id : List ℕ) → Contains (parents_of c) id → IsHeld cs id) → PlaceStays policy cs c
-place_stays policy cs c held more rows longer = (place_after cs more longer c held policy rows, place_before cs more longer c held policy rows)
+pub place_facts_stay : (policy : List PlacedItem) (cs : List Command) (c : Command) → ((id : List ℕ) → Contains (parents_of c) id → IsHeld cs id) → PlaceFactsStay policy cs c
+place_facts_stay policy cs c held more rows longer = (place_after cs more longer c held policy rows, place_before cs more longer c held policy rows)

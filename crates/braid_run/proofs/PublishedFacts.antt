@@ -11,10 +11,10 @@ use Rattle.braid.proofs.Carrying.{in_one_list, same_braids}
 use Rattle.braid.proofs.Gathering.{place_of_member}
 use Rattle.braid.proofs.PickOrder.{one_at}
 use Rattle.braid_run.specs.Places.{AreAtPlace, IsBehind}
-use Rattle.braid_run.specs.Published.{ArePublished, IsBehindAll, IsTopped, gone_on, without_merges}
+use Rattle.braid_run.specs.Published.{ArePublished, IsBehindAll, IsSoleHead, continued_run, without_merges}
 use Rattle.braid_run.specs.RunOf.{IsRunOf}
-use Rattle.braid_run.specs.Runs.{Run, entry_of, no_run, run_of, run_on, with_call}
-use Rattle.braid_run.specs.Soundness.{AreLawful, GoesOn, IsSound, Terms}
+use Rattle.braid_run.specs.Runs.{Run, entry_of, no_run, run_of, run_on, with_command}
+use Rattle.braid_run.specs.Soundness.{AreLawful, IsSoundExtension, IsSound, Criteria}
 use Rattle.braid_run.specs.States.{Held}
 use Rattle.braid_run.specs.declared.entry.Entry.{Entry}
 use Rattle.braid_run.proofs.RunFacts.{raised, run_append, run_grows, run_raised}
@@ -31,7 +31,7 @@ use Rattle.command.proofs.ListFacts.{at_head, each_last, each_left, each_more, o
 use Rattle.command.proofs.ReachFacts.{any_found}
 use Rattle.fact_store.specs.declared.row.Row.{Row}
 use Rattle.policy_ast.specs.declared.policy.PlacedItem.{PlacedItem}
-use Rattle.policy_meaning.specs.Commands.{call_judged, call_of}
+use Rattle.policy_meaning.specs.Commands.{judged}
 
 module _ (cs : List Command) (c : Command) (closed : IsClosed (cs ++ c ∷ [])) where
   -- the braid of the others is as it was
@@ -82,8 +82,8 @@ module _ (cs : List Command) (c : Command) (closed : IsClosed (cs ++ c ∷ [])) 
   all_above behind x inside = behind_above cs c x (behind.0, behind.1, behind.2, behind.3 x inside)
 
   -- and it is the next tip
-  pub topped_next : IsBehindAll cs c → IsTopped (cs ++ c ∷ []) c
-  topped_next behind x inside = elim (Contains-push_cases cs c x inside) [ inl older ↦ inr (all_above behind x older) | inr same ↦ inl (sym same) ]
+  pub next_sole_head : IsBehindAll cs c → IsSoleHead (cs ++ c ∷ []) c
+  next_sole_head behind x inside = elim (Contains-push_cases cs c x inside) [ inl older ↦ inr (all_above behind x older) | inr same ↦ inl (sym same) ]
 
 left_out : (c : Command) (more : List Command) → is_merge c ≡ true → without_merges (c ∷ more) ≡ without_merges more
 left_out c more is = rw is refl
@@ -123,13 +123,13 @@ on_from policy run cs =
     plus n = omega arith
 
 pub runs_last : (policy : List PlacedItem) (cs more : List Command) (rows : List Row) (entries : List Entry) → IsClosed (cs ++ more) → ArePublished cs more → IsRunOf policy cs rows entries →
-    IsRunOf policy (cs ++ more) (gone_on policy rows entries more).rows (gone_on policy rows entries more).entries
+    IsRunOf policy (cs ++ more) (continued_run policy rows entries more).rows (continued_run policy rows entries more).entries
 runs_last policy cs more rows entries closed are run =
     let first = run_of policy run.braid in
     let plain = without_merges more in
     let start : record { rows = rows; entries = entries; ticks = 0 } ≡ record { rows = first.rows; entries = first.entries; ticks = 0 } =
     ap (λ rs. record { rows = rs; entries = entries; ticks = 0 }) run.same_rows ∙ ap (λ es. record { rows = first.rows; entries = es; ticks = 0 }) run.same_entries in
-    let whole : run_of policy (run.braid ++ plain) ≡ raised first.ticks (gone_on policy rows entries more) =
+    let whole : run_of policy (run.braid ++ plain) ≡ raised first.ticks (continued_run policy rows entries more) =
     run_append policy no_run run.braid plain ∙ on_from policy first plain ∙ ap (λ r. raised first.ticks (run_on policy r plain)) (sym start) in
     record {
       braid = run.braid ++ plain;
@@ -144,24 +144,24 @@ more_entries : (policy : List PlacedItem) (rows : List Row) (entries : List Entr
 more_entries policy rows entries ticks front [] = refl
 more_entries policy rows entries ticks front (c ∷ cs) =
     let old : Run = record { rows = rows; entries = entries; ticks = ticks } in
-    let next = with_call policy old (command_id c) (call_of policy c) in
+    let next = with_command policy old c in
     ap (λ es. (run_on policy (record { rows = next.rows; entries = es; ticks = next.ticks }) cs).entries)
-    (append_assoc front entries (entry_of (command_id c) (call_judged policy rows (call_of policy c)) ∷ []))
+    (append_assoc front entries (entry_of (command_id c) (judged policy rows c) ∷ []))
     ∙ more_entries policy next.rows next.entries next.ticks front cs
 
 -- so what is published keeps a sound state sound, with all its entries as they are
-pub published_goes_on : (terms : Terms) (held : Held) (more : List Command) → IsClosed (held.commands ++ more) → ArePublished held.commands more → IsSound terms held →
-    AreLawful terms (held.commands ++ more) more →
-    GoesOn terms held.commands more (length held.entries) (gone_on terms.policy held.rows [] more).rows (gone_on terms.policy held.rows [] more).entries
+pub published_extends : (criteria : Criteria) (held : Held) (more : List Command) → IsClosed (held.commands ++ more) → ArePublished held.commands more → IsSound criteria held →
+    AreLawful criteria (held.commands ++ more) more →
+    IsSoundExtension criteria held.commands more (length held.entries) (continued_run criteria.policy held.rows [] more).rows (continued_run criteria.policy held.rows [] more).entries
 unfolding runs_last
-published_goes_on terms held more closed are sound lawful =
-    let policy = terms.policy in
+published_extends criteria held more closed are sound lawful =
+    let policy = criteria.policy in
     let before = sound.run.braid in
     let plain = without_merges more in
     let cut = length held.entries in
     let size : cut ≡ length before = ap length sound.run.same_entries ∙ run_grows policy no_run before ∙ plus (length before) in
     let now = runs_last policy held.commands more held.rows held.entries closed are sound.run in
-    let with_old : (gone_on policy held.rows held.entries more).entries ≡ held.entries ++ (gone_on policy held.rows [] more).entries =
+    let with_old : (continued_run policy held.rows held.entries more).entries ≡ held.entries ++ (continued_run policy held.rows [] more).entries =
     ap (λ es. (run_on policy (record { rows = held.rows; entries = es; ticks = 0 }) plain).entries) (sym (append-nil held.entries)) ∙ more_entries policy held.rows [] 0 held.entries plain in
     record {
       lawful = lawful;
@@ -169,11 +169,13 @@ published_goes_on terms held more closed are sound lawful =
       was = sound.run.is;
       now = now.braid;
       is = now.is;
-      within = (omega (arith, size), omega (arith, size, length-append before plain));
-      alike = ap (λ n. take n before) size ∙ take-length before ∙ sym (take-append_seam before plain) ∙ ap (λ n. take n (before ++ plain)) (sym size);
+      common = record {
+        within = (omega (arith, size), omega (arith, size, length-append before plain));
+        alike = ap (λ n. take n before) size ∙ take-length before ∙ sym (take-append_seam before plain) ∙ ap (λ n. take n (before ++ plain)) (sym size);
+      };
       same_rows = same_rows_of policy held.rows held.entries [] 0 plain ∙ now.same_rows;
       same_entries =
-          sym (drop-append_seam held.entries (gone_on policy held.rows [] more).entries) ∙ ap (drop cut) (sym with_old ∙ now.same_entries);
+          sym (drop-append_seam held.entries (continued_run policy held.rows [] more).entries) ∙ ap (drop cut) (sym with_old ∙ now.same_entries);
     }
   where
     plus : (n : ℕ) → 0 + n ≡ n
@@ -184,8 +186,8 @@ published_goes_on terms held more closed are sound lawful =
         (run_on policy (record { rows = rows; entries = others; ticks = ticks }) cs).rows ≡ (run_on policy (record { rows = rows; entries = entries; ticks = ticks }) cs).rows
     same_rows_of policy rows entries others ticks [] = refl
     same_rows_of policy rows entries others ticks (c ∷ cs) =
-        let next = with_call policy (record { rows = rows; entries = entries; ticks = ticks }) (command_id c) (call_of policy c) in
-        let other = with_call policy (record { rows = rows; entries = others; ticks = ticks }) (command_id c) (call_of policy c) in
+        let next = with_command policy (record { rows = rows; entries = entries; ticks = ticks }) c in
+        let other = with_command policy (record { rows = rows; entries = others; ticks = ticks }) c in
         same_rows_of policy next.rows next.entries other.entries next.ticks cs
 
 -- the facts at the place of a command behind all that is held are the facts held
@@ -222,8 +224,8 @@ module _ (cs : List Command) (closed : IsClosed cs) where
           let place = place_of_member cs closed y inside in
           (place.0, head_has (is_parent cs) 0 cs place.0 place.0 y (omega arith) place.1 is, (y, place.1, inl refl))
 
-  pub one_head_tops : (place : ℕ) (tip : Command) → heads cs ≡ place ∷ [] → IsAt cs place tip → IsTopped cs tip
-  one_head_tops place tip only is x inside =
+  pub one_head_is_sole : (place : ℕ) (tip : Command) → heads cs ≡ place ∷ [] → IsAt cs place tip → IsSoleHead cs tip
+  one_head_is_sole place tip only is x inside =
       let u = from_newest (λ y. IsUnder cs (heads cs) y) cs closed step x inside in
       let here : place ≡ u.0 = one_element place u.0 (subst (λ l. Contains l u.0) only u.1) in
       let same : u.2.0 ≡ tip = one_at cs place u.2.0 tip (subst (λ p. IsAt cs p u.2.0) (sym here) u.2.1) is in

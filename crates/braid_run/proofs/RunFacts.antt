@@ -7,22 +7,22 @@ use Rattle.std.proofs.lemmas.List.Elements.{All-push}
 use Rattle.std.proofs.lemmas.Option.{same_Some}
 use Rattle.braid.specs.Braids.{picked}
 use Rattle.braid.proofs.Places.{picked_more}
-use Rattle.braid_run.specs.RunOf.{Comes}
-use Rattle.braid_run.specs.Runs.{Run, call_ticks, entry_of, no_run, rows_behind, run_of, run_on, with_call}
+use Rattle.braid_run.specs.RunOf.{IsCountedRun}
+use Rattle.braid_run.specs.Runs.{Run, block_ticks, command_ticks, entry_of, no_run, rows_behind, run_of, run_on, with_command}
 use Rattle.braid_run.specs.declared.entry.Entry.{Entry}
 use Rattle.command.specs.Ancestors.{IsAt}
 use Rattle.command.specs.Wire.{command_id}
 use Rattle.command.specs.declared.command.Command.{Command}
 use Rattle.fact_store.specs.declared.row.Row.{Row}
 use Rattle.policy_ast.specs.declared.policy.PlacedItem.{PlacedItem}
-use Rattle.policy_meaning.specs.Commands.{Judged, Pass, Recalled, Void, Sticks as Stuck, call_judged, call_of}
-use Rattle.policy_meaning.specs.declared.call.Call.{Call}
+use Rattle.policy_meaning.specs.Applying.{Ended, Passes, Checks, Faults, Sticks as Sticking}
+use Rattle.policy_meaning.specs.Commands.{Judged, Pass, Recalled, Void, Sticks as Stuck, judged}
 
 -- a run of which more blocks were run before
 abbrev pub raised : ℕ → Run → Run
 raised n run = record { rows = run.rows; entries = run.entries; ticks = n + run.ticks }
 
-entry_id : (id : List ℕ) (judged : Judged) → (entry_of id judged).id ≡ id
+entry_id : (id : List ℕ) (is : Judged) → (entry_of id is).id ≡ id
 entry_id id (Pass rows effects) = refl
 entry_id id (Recalled rows effects) = refl
 entry_id id Void = refl
@@ -31,13 +31,13 @@ entry_id id Stuck = refl
 module _ (policy : List PlacedItem) where
   pub run_append : (run : Run) (xs ys : List Command) → run_on policy run (xs ++ ys) ≡ run_on policy (run_on policy run xs) ys
   run_append run [] ys = refl
-  run_append run (x ∷ xs) ys = run_append (with_call policy run (command_id x) (call_of policy x)) xs ys
+  run_append run (x ∷ xs) ys = run_append (with_command policy run x) xs ys
 
   -- one entry a command
   pub run_grows : (run : Run) (cs : List Command) → length (run_on policy run cs).entries ≡ length run.entries + length cs
   run_grows run [] = omega arith
   run_grows run (c ∷ cs) =
-      let next = with_call policy run (command_id c) (call_of policy c) in
+      let next = with_command policy run c in
       let more : length (run_on policy next cs).entries ≡ length next.entries + length cs = run_grows next cs in
       let one : length next.entries ≡ length run.entries + 1 = length-append run.entries _ in
       omega (arith, more, one)
@@ -46,18 +46,18 @@ module _ (policy : List PlacedItem) where
   pub run_names : (run : Run) (cs : List Command) → map (λ e. e.id) (run_on policy run cs).entries ≡ map (λ e. e.id) run.entries ++ map command_id cs
   run_names run [] = sym (append-nil (map (λ e. e.id) run.entries))
   run_names run (c ∷ cs) =
-      let judged = call_judged policy run.rows (call_of policy c) in
-      let next = with_call policy run (command_id c) (call_of policy c) in
+      let is = judged policy run.rows c in
+      let next = with_command policy run c in
       run_names next cs
       ∙ ap (λ l. l ++ map command_id cs)
-      (map-append (λ (e : Entry). e.id) run.entries (entry_of (command_id c) judged ∷ []) ∙ ap (λ id. map (λ e. e.id) run.entries ++ id ∷ []) (entry_id (command_id c) judged))
+      (map-append (λ (e : Entry). e.id) run.entries (entry_of (command_id c) is ∷ []) ∙ ap (λ id. map (λ e. e.id) run.entries ++ id ∷ []) (entry_id (command_id c) is))
       ∙ append_assoc (map (λ e. e.id) run.entries) (command_id c ∷ []) (map command_id cs)
 
   -- the entries so far begin those at the end
   pub entries_stay : (run : Run) (cs : List Command) → (more : List Entry) × ((run_on policy run cs).entries ≡ run.entries ++ more)
   entries_stay run [] = ([], sym (append-nil run.entries))
   entries_stay run (c ∷ cs) =
-      let next = with_call policy run (command_id c) (call_of policy c) in
+      let next = with_command policy run c in
       let rest = entries_stay next cs in
       (_ ∷ rest.0, rest.1 ∙ append_assoc run.entries _ rest.0)
 
@@ -73,10 +73,10 @@ module _ (policy : List PlacedItem) where
       ∙ ap (take n) rest.1
       ∙ subst (λ k. take k (front.entries ++ rest.0) ≡ front.entries) size (take-append_seam front.entries rest.0)
 
-  call_raised : (n : ℕ) (run : Run) (id : List ℕ) (call : Option Call) → with_call policy (raised n run) id call ≡ raised n (with_call policy run id call)
-  call_raised n run id call =
-      ap (λ t. record { rows = (with_call policy run id call).rows; entries = (with_call policy run id call).entries; ticks = t })
-      (ticks n run.ticks (call_ticks policy run.rows call))
+  command_raised : (n : ℕ) (run : Run) (c : Command) → with_command policy (raised n run) c ≡ raised n (with_command policy run c)
+  command_raised n run c =
+      ap (λ t. record { rows = (with_command policy run c).rows; entries = (with_command policy run c).entries; ticks = t })
+      (ticks n run.ticks (command_ticks policy run.rows c))
     where
       ticks : (n m t : ℕ) → n + m + t ≡ n + (m + t)
       ticks n m t = omega arith
@@ -84,34 +84,76 @@ module _ (policy : List PlacedItem) where
   pub run_raised : (n : ℕ) (run : Run) (cs : List Command) → run_on policy (raised n run) cs ≡ raised n (run_on policy run cs)
   run_raised n run [] = refl
   run_raised n run (c ∷ cs) =
-      ap (λ r. run_on policy r cs) (call_raised n run (command_id c) (call_of policy c)) ∙ run_raised n (with_call policy run (command_id c) (call_of policy c)) cs
+      ap (λ r. run_on policy r cs) (command_raised n run c) ∙ run_raised n (with_command policy run c) cs
+
+  -- ticks only rise
+  ticks_rise : (run : Run) (cs : List Command) → run.ticks ≤ (run_on policy run cs).ticks
+  ticks_rise run [] = omega arith
+  ticks_rise run (c ∷ cs) =
+      let next = with_command policy run c in
+      let rest : next.ticks ≤ (run_on policy next cs).ticks = ticks_rise next cs in
+      let one : next.ticks ≡ run.ticks + command_ticks policy run.rows c = refl in
+      omega (arith, rest, one)
+
+-- a policy block that is run takes a tick at least
+pub one_tick : (ended : Ended) → 1 ≤ block_ticks ended
+one_tick (Passes rows effects) = omega arith
+one_tick (Checks recall) = omega arith
+one_tick (Faults kind) = omega arith
+one_tick Sticking = omega arith
 
 -- ---- the loop over the places of a braid
 
 module _ (policy : List PlacedItem) (cs : List Command) (places : List ℕ) (whole : Run) where
-  -- one command more was run
-  pub goes_one : (i place : ℕ) (x : Command) (id : List ℕ) (old : Run) (rows : List Row) (entries : List Entry) (entry : Entry) (ticks : ℕ) → i < length places →
-      place ≡ get_or places i 0 → IsAt cs place x → option_map command_id (slice_get cs place) ≡ Some id →
-      rows ≡ rows_behind (call_judged policy old.rows (call_of policy x)) old.rows → entry ≡ entry_of id (call_judged policy old.rows (call_of policy x)) →
-      entries ≡ old.entries ++ entry ∷ [] → ticks ≡ old.ticks + call_ticks policy old.rows (call_of policy x) →
-      run_on policy old (picked cs (drop i places)) ≡ whole → run_on policy (record { rows = rows; entries = entries; ticks = ticks }) (picked cs (drop (i + 1) places)) ≡ whole
-  goes_one i place x id old rows entries entry ticks within is at named same_rows same_entry same_entries same_ticks before =
-      let next = with_call policy old (command_id x) (call_of policy x) in
-      let same_id : id ≡ command_id x = same_Some id (command_id x) (sym named ∙ ap (option_map command_id) at) in
+  next_here : (i place : ℕ) (x : Command) → i < length places → place ≡ get_or places i 0 → IsAt cs place x → picked cs (drop i places) ≡ x ∷ picked cs (drop (i + 1) places)
+  next_here i place x within is at =
       let next_place : suc i ≡ i + 1 = omega arith in
-      let listed : entries ≡ next.entries = same_entries ∙ ap (λ e. old.entries ++ e ∷ []) (same_entry ∙ ap (λ n. entry_of n (call_judged policy old.rows (call_of policy x))) same_id) in
-      let here : picked cs (drop i places) ≡ x ∷ picked cs (drop (i + 1) places) =
-      ap (picked cs) (drop-cons places i 0 within ∙ ap (λ p. p ∷ drop (suc i) places) (sym is) ∙ ap (λ k. place ∷ drop k places) next_place) ∙ picked_more cs place (drop (i + 1) places) x at in
+      ap (picked cs) (drop-cons places i 0 within ∙ ap (λ p. p ∷ drop (suc i) places) (sym is) ∙ ap (λ k. place ∷ drop k places) next_place) ∙ picked_more cs place (drop (i + 1) places) x at
+
+  -- a command takes no more ticks than the whole
+  pub ticks_within : (i place : ℕ) (x : Command) (old : Run) (ticks : ℕ) → i < length places → place ≡ get_or places i 0 → IsAt cs place x →
+      ticks ≤ old.ticks + command_ticks policy old.rows x → run_on policy old (picked cs (drop i places)) ≡ whole → ticks ≤ whole.ticks
+  ticks_within i place x old ticks within is at few so_far =
+      let rises = ticks_rise policy (with_command policy old x) (picked cs (drop (i + 1) places)) in
+      let same : (run_on policy (with_command policy old x) (picked cs (drop (i + 1) places))).ticks ≡ whole.ticks =
+      ap (λ l. (run_on policy old l).ticks) (sym (next_here i place x within is at)) ∙ ap (λ r. r.ticks) so_far in
+      omega (arith, few, rises, same)
+
+  -- one command more was run
+  pub one_more_run : (i place : ℕ) (x : Command) (id : List ℕ) (old : Run) (rows : List Row) (entries : List Entry) (entry : Entry) (ticks : ℕ) → i < length places →
+      place ≡ get_or places i 0 → IsAt cs place x → option_map command_id (slice_get cs place) ≡ Some id →
+      rows ≡ rows_behind (judged policy old.rows x) old.rows → entry ≡ entry_of id (judged policy old.rows x) →
+      entries ≡ old.entries ++ entry ∷ [] → ticks ≡ old.ticks + command_ticks policy old.rows x →
+      run_on policy old (picked cs (drop i places)) ≡ whole → run_on policy (record { rows = rows; entries = entries; ticks = ticks }) (picked cs (drop (i + 1) places)) ≡ whole
+  one_more_run i place x id old rows entries entry ticks within is at named same_rows same_entry same_entries same_ticks before =
+      let next = with_command policy old x in
+      let same_id : id ≡ command_id x = same_Some id (command_id x) (sym named ∙ ap (option_map command_id) at) in
+      let listed : entries ≡ next.entries = same_entries ∙ ap (λ e. old.entries ++ e ∷ []) (same_entry ∙ ap (λ n. entry_of n (judged policy old.rows x)) same_id) in
       ap (λ r. run_on policy (record { rows = r; entries = entries; ticks = ticks }) (picked cs (drop (i + 1) places))) same_rows
       ∙ ap (λ es. run_on policy (record { rows = next.rows; entries = es; ticks = ticks }) (picked cs (drop (i + 1) places))) listed
       ∙ ap (λ t. run_on policy (record { rows = next.rows; entries = next.entries; ticks = t }) (picked cs (drop (i + 1) places))) same_ticks
-      ∙ ap (run_on policy old) (sym here)
+      ∙ ap (run_on policy old) (sym (next_here i place x within is at))
       ∙ before
+
+-- the ticks of a run whose counter began elsewhere
+pub ticks_from : (policy : List PlacedItem) (cs : List Command) (before : ℕ) →
+    (run_on policy (record { rows = []; entries = []; ticks = before }) cs).ticks ≡ before + (run_of policy cs).ticks
+ticks_from policy cs before =
+    let plus : before ≡ before + 0 = omega arith in
+    ap (λ n. (run_on policy (record { rows = []; entries = []; ticks = n }) cs).ticks) plus ∙ ap (λ run. run.ticks) (run_raised policy before no_run cs)
+
+-- at no place are there more ticks than those of the whole run
+pub stays_within : (policy : List PlacedItem) (cs : List Command) (places : List ℕ) (i place : ℕ) (x : Command) (old : Run) (before ticks : ℕ) → i < length places → place ≡ get_or places i 0 →
+    IsAt cs place x → ticks ≤ old.ticks + command_ticks policy old.rows x →
+    run_on policy old (picked cs (drop i places)) ≡ run_on policy (record { rows = []; entries = []; ticks = before }) (picked cs places) → ticks ≤ before + (run_of policy (picked cs places)).ticks
+stays_within policy cs places i place x old before ticks within is at few so_far =
+    let most = ticks_within policy cs places (run_on policy (record { rows = []; entries = []; ticks = before }) (picked cs places)) i place x old ticks within is at few so_far in
+    omega (arith, most, ticks_from policy (picked cs places) before)
 
 -- all commands were run, by a counter that began elsewhere
 pub ran_whole : (policy : List PlacedItem) (cs : List Command) (places : List ℕ) (i : ℕ) (rows : List Row) (entries : List Entry) (before now : ℕ) → length places ≤ i →
     run_on policy (record { rows = rows; entries = entries; ticks = now }) (picked cs (drop i places)) ≡ run_on policy (record { rows = []; entries = []; ticks = before }) (picked cs places) →
-    Comes policy (picked cs places) rows entries before now
+    IsCountedRun policy (picked cs places) rows entries before now
 ran_whole policy cs places i rows entries before now past is =
     let last : Run = record { rows = rows; entries = entries; ticks = now } in
     let none : picked cs (drop i places) ≡ [] = ap (picked cs) (drop_all i places past) in

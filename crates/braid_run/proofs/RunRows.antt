@@ -1,6 +1,6 @@
 -- Runs of a few commands, computed. What their blocks come to is given.
 use Rattle.std.proofs.Common.{◌≡◌, ℕ, ◌+◌, List, [], ◌∷◌, ◌++◌, Some, None, refl}
-use Rattle.braid_run.specs.Runs.{Run, block_ticks, call_ticks, entry_of, rows_behind, run_of, with_call}
+use Rattle.braid_run.specs.Runs.{Run, block_ticks, command_ticks, entry_of, rows_behind, run_of, with_command}
 use Rattle.braid_run.specs.declared.entry.Entry.{Entry}
 use Rattle.braid_run.specs.declared.entry.Outcome.{Outcome}
 use Rattle.braid_run.specs.declared.entry.Outcome.TheVariants as outcome
@@ -46,11 +46,11 @@ module _ (id : List ℕ) (old new other : List Row) (effects more : List Effect)
   void_by_a_fault = refl
 
 -- a command that is no call is void, and nothing is run
-no_call : (policy : List PlacedItem) (run : Run) (id : List ℕ) → (with_call policy run id None).rows ≡ run.rows
-no_call policy run id = refl
+no_call : (policy : List PlacedItem) (run : Run) (c : Command) → call_of policy c ≡ None → (with_command policy run c).rows ≡ run.rows
+no_call policy run c is = rw is refl
 
-no_call_takes_no_tick : (policy : List PlacedItem) (rows : List Row) → call_ticks policy rows None ≡ 0
-no_call_takes_no_tick policy rows = refl
+no_call_takes_no_tick : (policy : List PlacedItem) (rows : List Row) (c : Command) → call_of policy c ≡ None → command_ticks policy rows c ≡ 0
+no_call_takes_no_tick policy rows c is = rw is refl
 
 -- ---- three commands: an init that makes `r0` of no facts, one that makes `r1` of `r0`, and one whose check fails over `r1` and whose recall passes
 
@@ -100,6 +100,6 @@ module _ (policy : List PlacedItem) (a b c : Command) (p s : Call) (r0 r1 : List
   of : Command → Outcome → List Effect → Entry
   of command outcome effects = record { id = command_id command; outcome = outcome; effects = effects }
 
-  the_run_goes_on : run_of policy (a ∷ b ∷ c ∷ []) ≡ record { rows = r1; entries = of a outcome.Pass [] ∷ of b outcome.Void [] ∷ of c outcome.Pass did ∷ []; ticks = 2 }
+  the_run_continues : run_of policy (a ∷ b ∷ c ∷ []) ≡ record { rows = r1; entries = of a outcome.Pass [] ∷ of b outcome.Void [] ∷ of c outcome.Pass did ∷ []; ticks = 2 }
   unfolding of
-  the_run_goes_on = rw (a_is, b_is, c_is, a_passes, c_passes) refl
+  the_run_continues = rw (a_is, b_is, c_is, a_passes, c_passes) refl

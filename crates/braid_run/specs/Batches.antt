@@ -7,11 +7,15 @@ use Rattle.command.specs.Closed.{IsClosed}
 use Rattle.command.specs.declared.command.Command.{Command}
 use Rattle.policy_ast.specs.declared.policy.PlacedItem.{PlacedItem}
 
--- How many commands two braids have in common from their first on.
-pub record IsCut (before now : List Command) (cut : ℕ) : Type 0 where
+-- Two braids have so many commands in common, from their first on.
+pub record IsCommonPrefix (before now : List Command) (cut : ℕ) : Type 0 where
   pub within : (cut ≤ length before) × (cut ≤ length now)
   pub alike : take cut before ≡ take cut now
-  pub longest : (n : ℕ) → n ≤ length before → n ≤ length now → take n before ≡ take n now → n ≤ cut
+
+-- And no more.
+pub record IsCut (before now : List Command) (cut : ℕ) : Type 0 where
+  pub common : IsCommonPrefix before now cut
+  pub longest : (n : ℕ) → IsCommonPrefix before now n → n ≤ cut
 
 pub record Batch : Type 0 where
   pub cut : ℕ

@@ -3,7 +3,7 @@ use Rattle.std.specs.Prelude.{◌≡◌, ℕ, ◌↔◌, List, [], ◌∷◌, �
 use Rattle.braid.specs.Braids.{IsBraid, IsBraidOf, IsBraidTo, IsBraidUnder}
 use Rattle.braid_run.specs.Batches.{Batch, IsBatch}
 use Rattle.braid_run.specs.Places.{AreAtPlace, IsBehind, parent_places}
-use Rattle.braid_run.specs.Published.{IsBehindAll, IsTopped}
+use Rattle.braid_run.specs.Published.{IsBehindAll, IsSoleHead}
 use Rattle.braid_run.specs.RunOf.{IsRunOf}
 use Rattle.braid_run.specs.Runs.{run_of, run_on}
 use Rattle.braid_run.specs.declared.entry.Entry.{Entry}
@@ -30,7 +30,7 @@ pub record BeginsWith (policy : List PlacedItem) (cs : List Command) (f : Comman
   pub rest : List Command
   pub closure : IsBraidTo cs f part
   pub begins : braid ≡ part ++ rest
-  pub goes_on : run_of policy braid ≡ run_on policy (run_of policy part) rest
+  pub continues : run_of policy braid ≡ run_on policy (run_of policy part) rest
   pub entries : take (length part) (run_of policy braid).entries ≡ (run_of policy part).entries
 
 -- What stands up to f in the list stays in this longer list.
@@ -43,16 +43,16 @@ pub record HasOneBatch (policy : List PlacedItem) (old new : List Command) : Typ
   pub one : (a b : Batch) → IsBatch policy old new a → IsBatch policy old new b → a ≡ b
 
 -- A command has facts at its place, and no others; they are those under the places of its parents.
-pub record HasPlace (policy : List PlacedItem) (cs : List Command) (c : Command) : Type 0 where
+pub record HasPlaceFacts (policy : List PlacedItem) (cs : List Command) (c : Command) : Type 0 where
   pub some : (rows : List Row) × AreAtPlace policy cs c rows
   pub one : (rows others : List Row) → AreAtPlace policy cs c rows → AreAtPlace policy cs c others → rows ≡ others
   pub under : (braid : List Command) → IsBraidOf cs (IsBehind cs c) braid ↔ IsBraidUnder cs (parent_places cs c) braid
 
 -- An append leaves the facts at its place.
-abbrev pub PlaceStays : List PlacedItem → List Command → Command → Type 0
-PlaceStays policy cs c = (more : List Command) (rows : List Row) → IsClosed (cs ++ more) → AreAtPlace policy cs c rows ↔ AreAtPlace policy (cs ++ more) c rows
+abbrev pub PlaceFactsStay : List PlacedItem → List Command → Command → Type 0
+PlaceFactsStay policy cs c = (more : List Command) (rows : List Row) → IsClosed (cs ++ more) → AreAtPlace policy cs c rows ↔ AreAtPlace policy (cs ++ more) c rows
 
 -- One head stands above all that is held, and a command behind all that is held is the next such.
 pub record HasTip (cs : List Command) : Type 0 where
-  pub head : (place : ℕ) (tip : Command) → heads cs ≡ place ∷ [] → IsAt cs place tip → IsTopped cs tip
-  pub next : (c : Command) → IsClosed (cs ++ c ∷ []) → IsBehindAll cs c → IsTopped (cs ++ c ∷ []) c
+  pub head : (place : ℕ) (tip : Command) → heads cs ≡ place ∷ [] → IsAt cs place tip → IsSoleHead cs tip
+  pub next : (c : Command) → IsClosed (cs ++ c ∷ []) → IsBehindAll cs c → IsSoleHead (cs ++ c ∷ []) c

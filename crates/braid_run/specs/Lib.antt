@@ -4,7 +4,7 @@ pub mod Runs
 pub mod RunOf
 pub mod Places
 pub mod States
-pub mod Soundness
 pub mod Batches
+pub mod Soundness
 pub mod Published
 pub mod Laws

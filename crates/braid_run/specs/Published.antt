@@ -10,13 +10,13 @@ use Rattle.command.specs.declared.command.Command.{Command}
 use Rattle.fact_store.specs.declared.row.Row.{Row}
 use Rattle.policy_ast.specs.declared.policy.PlacedItem.{PlacedItem}
 
--- All that is held is the tip, or an ancestor of it.
-abbrev pub IsTopped : List Command → Command → Type 0
-IsTopped cs tip = (x : Command) → Contains cs x → IsUpTo cs tip x
+-- The tip is the one head: all that is held is the tip, or an ancestor of it.
+abbrev pub IsSoleHead : List Command → Command → Type 0
+IsSoleHead cs tip = (x : Command) → Contains cs x → IsUpTo cs tip x
 
 -- A parent of c stands above all that is held.
 abbrev pub IsBehindAll : List Command → Command → Type 0
-IsBehindAll cs c = (tip : Command) × Contains cs tip × Contains (parents_of c) (command_id tip) × IsTopped cs tip
+IsBehindAll cs c = (tip : Command) × Contains cs tip × Contains (parents_of c) (command_id tip) × IsSoleHead cs tip
 
 -- Each of these is a merge, or stands behind all that is held by then.
 abbrev pub ArePublished : List Command → List Command → Type 0
@@ -27,5 +27,5 @@ abbrev pub without_merges : List Command → List Command
 without_merges cs = filter (λ c. not (is_merge c)) cs
 
 -- What these facts and entries come to once the commands are run that aren't merges.
-abbrev pub gone_on : List PlacedItem → List Row → List Entry → List Command → Run
-gone_on policy rows entries more = run_on policy (record { rows = rows; entries = entries; ticks = 0 }) (without_merges more)
+abbrev pub continued_run : List PlacedItem → List Row → List Entry → List Command → Run
+continued_run policy rows entries more = run_on policy (record { rows = rows; entries = entries; ticks = 0 }) (without_merges more)

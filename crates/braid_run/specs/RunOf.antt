@@ -20,8 +20,8 @@ pub record IsRunOf (policy : List PlacedItem) (cs : List Command) (rows : List R
   pub same_rows : rows ≡ (run_of policy braid).rows
   pub same_entries : entries ≡ (run_of policy braid).entries
 
--- Running these commands in their order comes to these facts and entries, and takes a counter from one number to the other.
-pub record Comes (policy : List PlacedItem) (cs : List Command) (rows : List Row) (entries : List Entry) (before now : ℕ) : Type 0 where
+-- These are the facts and entries of running these commands in their order, and the run takes a counter from one number to the other.
+pub record IsCountedRun (policy : List PlacedItem) (cs : List Command) (rows : List Row) (entries : List Entry) (before now : ℕ) : Type 0 where
   pub same_rows : rows ≡ (run_of policy cs).rows
   pub same_entries : entries ≡ (run_of policy cs).entries
   pub counted : now ≡ before + (run_of policy cs).ticks
@@ -30,4 +30,4 @@ pub record Comes (policy : List PlacedItem) (cs : List Command) (rows : List Row
 pub record IsRunUnder (policy : List PlacedItem) (cs : List Command) (tips : List ℕ) (rows : List Row) (entries : List Entry) (before now : ℕ) : Type 0 where
   pub braid : List Command
   pub is : IsBraidUnder cs tips braid
-  pub comes : Comes policy braid rows entries before now
+  pub run : IsCountedRun policy braid rows entries before now

@@ -8,7 +8,7 @@ use Rattle.fact_store.specs.declared.row.Row.{Row}
 use Rattle.policy_ast.specs.declared.policy.PlacedItem.{PlacedItem}
 use Rattle.policy_meaning.specs.Applying.{Ended, Checks}
 use Rattle.policy_meaning.specs.Blocks.{policy_block}
-use Rattle.policy_meaning.specs.Commands.{Judged, Pass, Recalled, call_judged, call_of}
+use Rattle.policy_meaning.specs.Commands.{Judged, Pass, Recalled, call_of, judged}
 use Rattle.policy_meaning.specs.declared.call.Call.{Call}
 
 -- What a run has come to: the facts, an entry for each command, and how many blocks were run.
@@ -21,7 +21,7 @@ pub record Run : Type 0 where
 abbrev pub no_run : Run
 no_run = record { rows = []; entries = []; ticks = 0 }
 
--- The entry of a command: a void one has no effects.
+-- The entry of a command: a void one has no effects. A block that sticks counts as void; no block of a well-typed policy does.
 abbrev pub entry_of : List ℕ → Judged → Entry
 entry_of id (Pass rows effects) = record { id = id; outcome = outcome.Pass; effects = effects }
 entry_of id (Recalled rows effects) = record { id = id; outcome = outcome.Recalled; effects = effects }
@@ -42,18 +42,21 @@ abbrev pub call_ticks : List PlacedItem → List Row → Option Call → ℕ
 call_ticks policy rows None = 0
 call_ticks policy rows (Some call) = block_ticks (policy_block policy call rows)
 
--- A run with one command more, of this id, which is this call or none.
-abbrev pub with_call : List PlacedItem → Run → List ℕ → Option Call → Run
-with_call policy run id call = record {
-  rows = rows_behind (call_judged policy run.rows call) run.rows;
-  entries = run.entries ++ entry_of id (call_judged policy run.rows call) ∷ [];
-  ticks = run.ticks + call_ticks policy run.rows call;
+abbrev pub command_ticks : List PlacedItem → List Row → Command → ℕ
+command_ticks policy rows c = call_ticks policy rows (call_of policy c)
+
+-- A run with one command more, which comes to what it is judged to.
+abbrev pub with_command : List PlacedItem → Run → Command → Run
+with_command policy run c = record {
+  rows = rows_behind (judged policy run.rows c) run.rows;
+  entries = run.entries ++ entry_of (command_id c) (judged policy run.rows c) ∷ [];
+  ticks = run.ticks + command_ticks policy run.rows c;
 }
 
 -- A run that goes on with these commands.
 abbrev pub run_on : List PlacedItem → Run → List Command → Run
 run_on policy run [] = run
-run_on policy run (c ∷ cs) = run_on policy (with_call policy run (command_id c) (call_of policy c)) cs
+run_on policy run (c ∷ cs) = run_on policy (with_command policy run c) cs
 
 -- The run of a list of commands.
 abbrev pub run_of : List PlacedItem → List Command → Run

@@ -1,7 +1,8 @@
 -- Sound states: what a state promises for a policy and a type of envelopes, beyond what is true of every state.
-use Rattle.std.specs.Prelude.{◌≡◌, ◌≤◌, ℕ, Bool, false, IsTrue, List, ◌++◌, length, take, drop, Option, Some, None, option_and_then}
+use Rattle.std.specs.Prelude.{◌≡◌, ℕ, Bool, false, IsTrue, List, ◌++◌, drop, Option, Some, None, option_and_then}
 use Rattle.std.specs.List.{Contains}
 use Rattle.braid.specs.Braids.{IsBraid}
+use Rattle.braid_run.specs.Batches.{IsCommonPrefix}
 use Rattle.braid_run.specs.Places.{AreAtPlace}
 use Rattle.braid_run.specs.RunOf.{IsRunOf}
 use Rattle.braid_run.specs.Runs.{run_of}
@@ -20,8 +21,8 @@ use Rattle.policy_rules.specs.Commands.{CommandKind, Basic, Finalize, Init, comm
 use Rattle.policy_rules.specs.Names.{Name, item_named}
 use Rattle.policy_rules.specs.WellTyped.{items_of}
 
--- What soundness is asked for: a policy, the digest of its document, and the test of tags that a type of envelopes has.
-pub record Terms : Type 0 where
+-- What commands are judged by: a policy, the digest of its document, and the test of tags that a type of envelopes has.
+pub record Criteria : Type 0 where
   pub policy : List PlacedItem
   pub digest : List ℕ
   pub good : List ℕ → List ℕ → List ℕ → Bool
@@ -59,35 +60,34 @@ DoesPass (Pass rows effects) = Unit {0}
 DoesPass other = ⊥
 
 -- A command, no merge, that the policy and the envelopes accept where it stands.
-pub record IsLawful (terms : Terms) (cs : List Command) (c : Command) : Type 0 where
-  pub digest : HasDigest terms.digest c
-  pub tag : HasGoodTag terms.good c
-  pub kind : option_and_then (λ content. declared_kind terms.policy content.name) (content_of c) ≡ kind_of c
-  pub passes : (rows : List Row) → AreAtPlace terms.policy cs c rows → DoesPass (judged terms.policy rows c)
+pub record IsLawful (criteria : Criteria) (cs : List Command) (c : Command) : Type 0 where
+  pub digest : HasDigest criteria.digest c
+  pub tag : HasGoodTag criteria.good c
+  pub kind : option_and_then (λ content. declared_kind criteria.policy content.name) (content_of c) ≡ kind_of c
+  pub passes : (rows : List Row) → AreAtPlace criteria.policy cs c rows → DoesPass (judged criteria.policy rows c)
 
 -- Each of these but the merges is lawful where it stands in the list.
-abbrev pub AreLawful : Terms → List Command → List Command → Type 0
-AreLawful terms cs these = (c : Command) → Contains these c → is_merge c ≡ false → IsLawful terms cs c
+abbrev pub AreLawful : Criteria → List Command → List Command → Type 0
+AreLawful criteria cs these = (c : Command) → Contains these c → is_merge c ≡ false → IsLawful criteria cs c
 
 -- A sound list of commands.
-pub record AreSound (terms : Terms) (graph_id : Option (List ℕ)) (cs : List Command) : Type 0 where
+pub record AreSound (criteria : Criteria) (graph_id : Option (List ℕ)) (cs : List Command) : Type 0 where
   pub standing : IsStanding graph_id cs
-  pub lawful : AreLawful terms cs cs
+  pub lawful : AreLawful criteria cs cs
 
 -- A sound state: its commands are sound, and its facts and entries are those of running their braid.
-pub record IsSound (terms : Terms) (held : Held) : Type 0 where
-  pub commands : AreSound terms held.graph_id held.commands
-  pub run : IsRunOf terms.policy held.commands held.rows held.entries
+pub record IsSound (criteria : Criteria) (held : Held) : Type 0 where
+  pub commands : AreSound criteria held.graph_id held.commands
+  pub run : IsRunOf criteria.policy held.commands held.rows held.entries
 
 -- What it takes for added commands, a cut, and what was run to leave a sound state sound: the new commands are lawful; the braids before and after
 -- have the first `cut` commands in common; and the facts are those of the new braid's run, the entries those of it from `cut` on.
-pub record GoesOn (terms : Terms) (cs more : List Command) (cut : ℕ) (rows : List Row) (entries : List Entry) : Type 0 where
-  pub lawful : AreLawful terms (cs ++ more) more
+pub record IsSoundExtension (criteria : Criteria) (cs more : List Command) (cut : ℕ) (rows : List Row) (entries : List Entry) : Type 0 where
+  pub lawful : AreLawful criteria (cs ++ more) more
   pub before : List Command
   pub was : IsBraid cs before
   pub now : List Command
   pub is : IsBraid (cs ++ more) now
-  pub within : (cut ≤ length before) × (cut ≤ length now)
-  pub alike : take cut before ≡ take cut now
-  pub same_rows : rows ≡ (run_of terms.policy now).rows
-  pub same_entries : entries ≡ drop cut (run_of terms.policy now).entries
+  pub common : IsCommonPrefix before now cut
+  pub same_rows : rows ≡ (run_of criteria.policy now).rows
+  pub same_entries : entries ≡ drop cut (run_of criteria.policy now).entries

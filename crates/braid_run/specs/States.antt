@@ -10,15 +10,15 @@ use Rattle.command.specs.Wire.{command_id}
 use Rattle.command.specs.declared.command.Command.{Command}
 use Rattle.fact_store.specs.declared.row.Row.{Row}
 
--- The graph's id, where it is known; the commands in stored order; the facts; and the entries in the order of the braid.
+-- The graph's id, where it is known; the commands in stored order; the facts; and the entries. A sound state has those of running the braid, in its order.
 pub record Held : Type 0 where
   pub graph_id : Option (List ℕ)
   pub commands : List Command
   pub rows : List Row
   pub entries : List Entry
 
--- A state is what it holds, and the room it has: how many commands and how many entries can be added without memory.
-pub record Roomy : Type 0 where
+-- A state as contracts see it: what it holds, and how many commands and how many entries can be added without memory.
+pub record HeldAndRoom : Type 0 where
   pub held : Held
   pub room : ℕ
   pub entry_room : ℕ

@@ -1,4 +1,4 @@
-ghost use Rattle.std.specs.Prelude.{◌≡◌, ◌+◌, ◌≤◌, [], ◌∷◌, ◌++◌, length, take, IfOk, OnOk, OnErr};
+ghost use Rattle.std.specs.Prelude.{◌≡◌, ◌+◌, ◌<◌, ◌≤◌, [], ◌∷◌, ◌++◌, length, take, IsOk, IfOk, OnOk, OnErr};
 
 use crate::Entry;
 use base_bytes::NoMemory;
@@ -70,18 +70,23 @@ impl Entries {
         Entries::from_slice(alloc, self.as_slice())
     }
 
-    /// Adds one entry at the end; without memory the entries stay as they were.
+    /// Adds one entry at the end. Where there is room this takes no memory, and at most the room of one entry is taken; without memory the entries stay
+    /// as they were, and no room is lost.
     pub fn push(&mut self, _alloc: Global, entry: Entry) -> Result<(), NoMemory>
         ensures ok { OnOk result (self.new.all ≡ self.old.all ++ entry ∷ []) }
         ensures err { OnErr result (self.new.all ≡ self.old.all) }
+        ensures succeeds { 0 < self.old.room → IsOk result }
+        ensures room { self.old.room ≤ self.new.room + 1 }
+        ensures kept { OnErr result (self.old.room ≤ self.new.room) }
     {
         self.entries.push(entry)?;
         Ok(())
     }
 
-    /// Makes room for so many more entries; without memory the entries stay as they were, and no room is lost.
+    /// Makes room for so many more entries, and takes no memory where it is there. Without memory the entries stay as they were, and no room is lost.
     pub fn reserve(&mut self, _alloc: Global, more: usize) -> Result<(), NoMemory>
         ensures ok { OnOk result (more ≤ self.new.room) }
+        ensures succeeds { more ≤ self.old.room → IsOk result }
         ensures entries { self.new.all ≡ self.old.all }
         ensures kept { self.old.room ≤ self.new.room }
     {

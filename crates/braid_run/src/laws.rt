@@ -4,12 +4,12 @@ ghost use Rattle.std.specs.Prelude.{◌≡◌, ◌<◌, ℕ, true, List, [], ◌
 ghost use Rattle.std.specs.List.{All, Contains};
 ghost use Rattle.braid.specs.Agreeing.{Agree};
 ghost use Rattle.braid_run.specs.Batches.{AreChanges, Change, all_followed, commands_behind};
-ghost use Rattle.braid_run.specs.Laws.{HasOneBatch, HasOneRun, HasPlace, HasTip, HaveOneRun, PlaceStays, StaysFinal};
+ghost use Rattle.braid_run.specs.Laws.{HasOneBatch, HasOneRun, HasPlaceFacts, HasTip, HaveOneRun, PlaceFactsStay, StaysFinal};
 ghost use Rattle.braid_run.specs.Places.{AreAtPlace};
-ghost use Rattle.braid_run.specs.Published.{ArePublished, IsBehindAll, gone_on};
+ghost use Rattle.braid_run.specs.Published.{ArePublished, IsBehindAll, continued_run};
 ghost use Rattle.braid_run.specs.RunOf.{AreEntriesOf, IsRunOf};
 ghost use Rattle.braid_run.specs.Runs.{run_of};
-ghost use Rattle.braid_run.specs.Soundness.{AreLawful, GoesOn, IsLawful, IsSound, Terms};
+ghost use Rattle.braid_run.specs.Soundness.{AreLawful, IsSoundExtension, IsLawful, IsSound, Criteria};
 ghost use Rattle.braid_run.specs.States.{Held, IsStanding, MayFollow, extended};
 ghost use Rattle.braid_run.specs.declared.entry.Entry.{Entry};
 ghost use Rattle.command.specs.Ancestors.{AreInLine, heads};
@@ -50,9 +50,9 @@ pub fn batches()
 
 /// Each command, held or not, has facts at its place and no others. Where its parents are held, an append leaves them.
 pub fn commands_have_places()
-    ensures place { (policy : List PlacedItem) (commands : List Command) (command : Command) → IsClosed commands → HasPlace policy commands command }
+    ensures place { (policy : List PlacedItem) (commands : List Command) (command : Command) → IsClosed commands → HasPlaceFacts policy commands command }
     ensures stays { (policy : List PlacedItem) (commands : List Command) (command : Command) → ((id : List ℕ) → Contains (parents_of command) id → IsHeld commands id)
-        → PlaceStays policy commands command }
+        → PlaceFactsStay policy commands command }
 {}
 
 /// Where a command may be added to what stands, what is held then stands.
@@ -64,10 +64,10 @@ pub fn additions_stand()
 /// A sound state stays sound where lawful commands are added with the entries and the facts of the new run. A command that is lawful where it stands
 /// stays so.
 pub fn extensions_stay_sound()
-    ensures lawful { (terms : Terms) (commands more : List Command) (command : Command) → IsClosed (commands ++ more)
-        → ((id : List ℕ) → Contains (parents_of command) id → IsHeld commands id) → IsLawful terms commands command → IsLawful terms (commands ++ more) command }
-    ensures state { (terms : Terms) (held : Held) (more : List Command) (cut : ℕ) (rows : List Row) (entries : List Entry) → IsStanding held.graph_id (held.commands ++ more)
-        → IsSound terms held → GoesOn terms held.commands more cut rows entries → IsSound terms (extended held more cut rows entries) }
+    ensures lawful { (criteria : Criteria) (commands more : List Command) (command : Command) → IsClosed (commands ++ more)
+        → ((id : List ℕ) → Contains (parents_of command) id → IsHeld commands id) → IsLawful criteria commands command → IsLawful criteria (commands ++ more) command }
+    ensures state { (criteria : Criteria) (held : Held) (more : List Command) (cut : ℕ) (rows : List Row) (entries : List Entry) → IsStanding held.graph_id (held.commands ++ more)
+        → IsSound criteria held → IsSoundExtension criteria held.commands more cut rows entries → IsSound criteria (extended held more cut rows entries) }
 {}
 
 /// The heads of a list are places of it, as the tips of a run have to be.
@@ -79,11 +79,11 @@ pub fn heads_are_places()
 /// over the facts at its place, which are the facts held by then. So lawful ones keep a sound state sound, with all its entries as they are.
 pub fn published_commands_run_last()
     ensures run { (policy : List PlacedItem) (commands more : List Command) (rows : List Row) (entries : List Entry) → IsClosed (commands ++ more) → ArePublished commands more
-        → IsRunOf policy commands rows entries → IsRunOf policy (commands ++ more) (gone_on policy rows entries more).rows (gone_on policy rows entries more).entries }
+        → IsRunOf policy commands rows entries → IsRunOf policy (commands ++ more) (continued_run policy rows entries more).rows (continued_run policy rows entries more).entries }
     ensures place { (policy : List PlacedItem) (commands : List Command) (command : Command) (rows others : List Row) (entries : List Entry) → IsClosed commands
         → IsBehindAll commands command → IsRunOf policy commands rows entries → AreAtPlace policy commands command others → others ≡ rows }
-    ensures sound { (terms : Terms) (held : Held) (more : List Command) → IsClosed (held.commands ++ more) → ArePublished held.commands more → IsSound terms held
-        → AreLawful terms (held.commands ++ more) more
-        → GoesOn terms held.commands more (length held.entries) (gone_on terms.policy held.rows [] more).rows (gone_on terms.policy held.rows [] more).entries }
+    ensures sound { (criteria : Criteria) (held : Held) (more : List Command) → IsClosed (held.commands ++ more) → ArePublished held.commands more → IsSound criteria held
+        → AreLawful criteria (held.commands ++ more) more
+        → IsSoundExtension criteria held.commands more (length held.entries) (continued_run criteria.policy held.rows [] more).rows (continued_run criteria.policy held.rows [] more).entries }
     ensures tip { (commands : List Command) → IsClosed commands → HasTip commands }
 {}

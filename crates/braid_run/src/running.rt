@@ -1,14 +1,15 @@
 ghost use Rattle.std.specs.Prelude.{◌≡◌, ◌<◌, ◌+◌, ◌≤◌, List, length, IfOk, OnOk, Some};
 ghost use Rattle.std.specs.List.{All};
 ghost use Rattle.base_bytes.specs.Reaching.{NoneReachesItself};
-ghost use Rattle.braid.specs.Braids.{picked};
-ghost use Rattle.braid_run.specs.RunOf.{Comes, IsRunUnder};
-ghost use Rattle.braid_run.specs.Runs.{call_ticks, entry_of, rows_behind};
+ghost use Rattle.braid.specs.Braids.{IsBraidUnder, picked};
+ghost use Rattle.braid_run.specs.RunOf.{IsCountedRun, IsRunUnder};
+ghost use Rattle.braid_run.specs.Runs.{call_ticks, command_ticks, entry_of, rows_behind, run_of};
 ghost use Rattle.command.specs.Ancestors.{IsAt};
 ghost use Rattle.command.specs.Wire.{IsInForm};
+ghost use Rattle.command.specs.declared.command.Command.{Command};
 ghost use Rattle.policy_ast.specs.declared.policy.PlacedItem.{PlacedItem};
 ghost use Rattle.policy_meaning.specs.Blocks.{recall_block};
-ghost use Rattle.policy_meaning.specs.Commands.{Void, call_judged, call_of, recalled};
+ghost use Rattle.policy_meaning.specs.Commands.{Void, call_judged, judged, recalled};
 ghost use Rattle.policy_meaning.specs.Typed.{AreEffectsOf, AreTyped, IsCommandOf};
 ghost use Rattle.policy_rules.specs.Shapes.{shapes_of};
 ghost use Rattle.policy_rules.specs.WellTyped.{items_of};
@@ -73,6 +74,7 @@ fn run_recall<R: Runner, F: FactBase, L: Ledger>(
 }
 
 /// Runs the blocks of a call: its policy block, and behind a failed check its recall block.
+#[tactic(auto, using(crate::proofs::RunFacts::one_tick))]
 fn run_call<R: Runner, F: FactBase, L: Ledger>(
     alloc: Global,
     runner: &R,
@@ -88,6 +90,7 @@ fn run_call<R: Runner, F: FactBase, L: Ledger>(
     ensures typed { OnOk result (AreTyped (R.rules runner.now) (F.rows facts.new)) }
     ensures effects { IfOk result (λ entry. AreEffectsOf (R.rules runner.now) entry.effects) }
     ensures ticks { OnOk result (steps.new ≡ steps.old + call_ticks (R.rules runner.now) (F.rows facts.old) (Some call.now)) }
+    ensures at_most { steps.new ≤ steps.old + call_ticks (R.rules runner.now) (F.rows facts.old) (Some call.now) }
     ensures later { steps.old ≤ steps.new }
 {
     match runner.run_command(alloc, call, facts, steps)? {
@@ -111,11 +114,12 @@ fn run_command<R: Runner, F: FactBase, L: Ledger>(
     requires shapes { shapes.now ≡ shapes_of (items_of (R.rules runner.now)) }
     requires finite { NoneReachesItself shapes.now }
     requires typed { AreTyped (R.rules runner.now) (F.rows facts.old) }
-    ensures entry { IfOk result (λ entry. entry ≡ entry_of id (call_judged (R.rules runner.now) (F.rows facts.old) (call_of (R.rules runner.now) command.now))) }
-    ensures rows { OnOk result (F.rows facts.new ≡ rows_behind (call_judged (R.rules runner.now) (F.rows facts.old) (call_of (R.rules runner.now) command.now)) (F.rows facts.old)) }
+    ensures entry { IfOk result (λ entry. entry ≡ entry_of id (judged (R.rules runner.now) (F.rows facts.old) command.now)) }
+    ensures rows { OnOk result (F.rows facts.new ≡ rows_behind (judged (R.rules runner.now) (F.rows facts.old) command.now) (F.rows facts.old)) }
     ensures typed { OnOk result (AreTyped (R.rules runner.now) (F.rows facts.new)) }
     ensures effects { IfOk result (λ entry. AreEffectsOf (R.rules runner.now) entry.effects) }
-    ensures ticks { OnOk result (steps.new ≡ steps.old + call_ticks (R.rules runner.now) (F.rows facts.old) (call_of (R.rules runner.now) command.now)) }
+    ensures ticks { OnOk result (steps.new ≡ steps.old + command_ticks (R.rules runner.now) (F.rows facts.old) command.now) }
+    ensures at_most { steps.new ≤ steps.old + command_ticks (R.rules runner.now) (F.rows facts.old) command.now }
     ensures later { steps.old ≤ steps.new }
 {
     match call_of(alloc, runner.policy(), shapes, command)? {
@@ -145,9 +149,10 @@ fn run_places<R: Runner, G: Graph, F: FactBase, L: Ledger>(
     requires places { All (λ place. place < length (G.commands graph.now)) places.now }
     requires shapes { shapes.now ≡ shapes_of (items_of (R.rules runner.now)) }
     requires finite { NoneReachesItself shapes.now }
-    ensures runs { IfOk result (λ ran. Comes (R.rules runner.now) (picked (G.commands graph.now) places.now) (F.rows ran.facts) ran.entries.all steps.old steps.new) }
+    ensures runs { IfOk result (λ ran. IsCountedRun (R.rules runner.now) (picked (G.commands graph.now) places.now) (F.rows ran.facts) ran.entries.all steps.old steps.new) }
     ensures typed { IfOk result (λ ran. AreTyped (R.rules runner.now) (F.rows ran.facts)) }
     ensures effects { IfOk result (λ ran. All (λ entry. AreEffectsOf (R.rules runner.now) entry.effects) ran.entries.all) }
+    ensures at_most { steps.new ≤ steps.old + (run_of (R.rules runner.now) (picked (G.commands graph.now) places.now)).ticks }
     ensures later { steps.old ≤ steps.new }
 {
     let mut facts = F::empty(alloc);
@@ -162,7 +167,8 @@ fn run_places<R: Runner, G: Graph, F: FactBase, L: Ledger>(
 }
 
 /// Runs the braid of the tips' closure by the runner's policy, from no facts. The answer has the facts, and the entries in the order of the braid;
-/// the counter rises by the blocks that were run. Each command is run once. Running out of memory is the only error, and the counter may have risen by then.
+/// the counter rises by the blocks that were run. Each command is run once. Running out of memory is the only error; by then the counter may have
+/// risen, and by no more than the ticks of the run.
 pub fn run_all<R: Runner, G: Graph, F: FactBase, L: Ledger>(
     alloc: Global,
     runner: &R,
@@ -174,6 +180,7 @@ pub fn run_all<R: Runner, G: Graph, F: FactBase, L: Ledger>(
     ensures runs { IfOk result (λ ran. IsRunUnder (R.rules runner.now) (G.commands graph.now) tips.now (F.rows ran.facts) ran.entries.all steps.old steps.new) }
     ensures typed { IfOk result (λ ran. AreTyped (R.rules runner.now) (F.rows ran.facts)) }
     ensures effects { IfOk result (λ ran. All (λ entry. AreEffectsOf (R.rules runner.now) entry.effects) ran.entries.all) }
+    ensures at_most { (braid : List Command) → IsBraidUnder (G.commands graph.now) tips.now braid → steps.new ≤ steps.old + (run_of (R.rules runner.now) braid).ticks }
     ensures later { steps.old ≤ steps.new }
 {
     let policy = runner.policy();

@@ -1,7 +1,7 @@
 //! What a replica keeps of one graph: the commands, and the facts and entries of their run.
 
 ghost use Rattle.std.specs.Prelude.{◌≡◌, ◌+◌, ◌<◌, ◌≤◌, [], ◌∷◌, ◌++◌, length, Some, None, IfOk, OnOk};
-ghost use Rattle.braid_run.specs.Soundness.{GoesOn, IsSound, Terms};
+ghost use Rattle.braid_run.specs.Soundness.{IsSoundExtension, IsSound, Criteria};
 ghost use Rattle.braid_run.specs.States.{IsStanding, extended};
 ghost use Rattle.command.specs.Closed.{IsClosed, IsNext, max_commands};
 
@@ -26,9 +26,9 @@ pub struct State<G: Graph, F: FactBase> {
 impl<G: Graph, F: FactBase> Model for State<G, F> {
     ghost use Rattle.std.specs.Coded.{codes};
     ghost use Rattle.base_bytes.specs.contracts.value.Value as value;
-    ghost use Rattle.braid_run.specs.States.{IsStanding, Roomy};
+    ghost use Rattle.braid_run.specs.States.{IsStanding, HeldAndRoom};
 
-    ghost Value = { Roomy };
+    ghost Value = { HeldAndRoom };
 
     ghost coded = { Prim.hlevel (codes, value.the_row.coded) };
 
@@ -66,9 +66,10 @@ fn append_all<G: Graph>(graph: &mut G, commands: Vec<Command>)
 }
 
 impl<G: Graph, F: FactBase> State<G, F> {
-    /// A state of no graph: it has no id, no commands, no facts and no entries.
+    /// A state of no graph: it has no id, no commands, no facts and no entries. It is sound.
     pub fn empty(alloc: Global) -> Result<State<G, F>, NoMemory>
-        ensures { IfOk result (λ state. state.held ≡ record { graph_id = None; commands = []; rows = []; entries = [] }) }
+        ensures held { IfOk result (λ state. state.held ≡ record { graph_id = None; commands = []; rows = []; entries = [] }) }
+        ensures sound { IfOk result (λ state. (criteria : Criteria) → IsSound criteria state.held) }
     {
         Ok(State {
             id: None,
@@ -99,18 +100,19 @@ impl<G: Graph, F: FactBase> State<G, F> {
         &self.facts
     }
 
-    /// The entries, in the order of the braid.
+    /// The entries. A sound state has those of running the braid, in its order.
     pub fn entries(&self) -> &Entries
         ensures { result.now.all ≡ self.now.held.entries }
     {
         &self.entries
     }
 
-    /// Names the graph, which has no id yet, and so no commands. Takes no memory.
+    /// Names the graph, which has no id yet, and so no commands. A sound state stays sound. Takes no memory.
     pub fn name_graph(&mut self, id: Id)
         requires unnamed { self.old.held.graph_id ≡ None }
         ensures named { self.new ≡ record self.old { held = record self.old.held { graph_id = Some id } } }
         ensures empty { self.old.held.commands ≡ [] }
+        ensures sound { (criteria : Criteria) → IsSound criteria self.old.held → IsSound criteria self.new.held }
     {
         self.id = Some(id);
     }
@@ -141,7 +143,7 @@ impl<G: Graph, F: FactBase> State<G, F> {
         ensures held { self.new.held ≡ extended self.old.held commands cut (F.rows ran.facts) ran.entries.all }
         ensures room { self.new.room + length commands ≡ self.old.room }
         ensures entry_room { self.old.entry_room ≤ self.new.entry_room + length ran.entries.all }
-        ensures sound { (terms : Terms) → IsSound terms self.old.held → GoesOn terms self.old.held.commands commands cut (F.rows ran.facts) ran.entries.all → IsSound terms self.new.held }
+        ensures sound { (criteria : Criteria) → IsSound criteria self.old.held → IsSoundExtension criteria self.old.held.commands commands cut (F.rows ran.facts) ran.entries.all → IsSound criteria self.new.held }
     {
         let Ran { facts, entries } = ran;
         append_all(&mut self.graph, commands.into_vec());

@@ -8,7 +8,7 @@ use Rattle.braid_run.proofs.running.run_places.Given as goal
 -- Running what is left from here comes to what running all from the start does.
 abbrev pub invariant-loop-place : goal.invariant-loop-place
 invariant-loop-place g l = record {
-  goes_on :
+  continues :
       run_on (g.R.Runner.rules l.runner) (record { rows = g.F.FactBase.rows l.facts; entries = l.entries.all; ticks = l.steps }) (picked (g.G.Graph.commands l.graph) (drop l.place-index l.places))
       ≡ run_on (g.R.Runner.rules l.runner) (record { rows = []; entries = []; ticks = l.fn.steps }) (picked (g.G.Graph.commands l.graph) l.places);
   typed : AreTyped (g.R.Runner.rules l.runner) (g.F.FactBase.rows l.facts);

@@ -9,4 +9,4 @@ returns-clause-sound g c =
     let rows = g.F.FactBase.rows c.args.ran.facts in
     let now : Held = record { graph_id = c.self.inside.id; commands = g.G.Graph.commands c.append_all.new.graph; rows = rows; entries = c.append.new.self.all } in
     let held : now ≡ extended c.args.self.now.held c.args.commands c.args.cut rows c.args.ran.entries.all = search rules in
-    λ terms sound on. subst (λ h. IsSound terms h) (sym held) (sound_on terms c.args.self.now.held c.args.commands c.args.cut rows c.args.ran.entries.all c.requires.standing sound on)
+    λ criteria sound on. subst (λ h. IsSound criteria h) (sym held) (sound_on criteria c.args.self.now.held c.args.commands c.args.cut rows c.args.ran.entries.all c.requires.standing sound on)
