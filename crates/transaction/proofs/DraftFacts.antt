@@ -1,5 +1,5 @@
 -- Small facts of drafts that are opened.
-use Rattle.std.proofs.Common.{◌≡◌, ℕ, zero, suc, ◌<◌, Bool, true, false, List, [], ◌∷◌, length, map, nat_lt, ◌||◌, refl, sym, ap, subst, ◌∙◌, arith, Option, Some, None, ◌++◌, if◌then◌else◌}
+use Rattle.std.proofs.Common.{◌≡◌, ℕ, zero, suc, ◌<◌, Bool, true, false, List, [], ◌∷◌, length, map, nat_lt, ◌||◌, option_map, slice_get, get_or, drop, ◌+◌, ◌<◌, drop-cons, add-one, refl, sym, ap, subst, ◌∙◌, arith, Option, Some, None, ◌++◌, if◌then◌else◌}
 use Rattle.std.specs.List.{list_any}
 use Rattle.std.specs.Str.{bytes_eq}
 use Rattle.std.proofs.lemmas.Bool.{false≢true, lt-ltb}
@@ -8,7 +8,11 @@ use Rattle.std.specs.Option.{is_some}
 use Rattle.std.proofs.lemmas.List.{map-append}
 use Rattle.std.proofs.lemmas.List.Elements.{All-push}
 use Rattle.indexmap.specs.IndexSet.{insert_key}
+use Rattle.std.proofs.lemmas.List.{drop_all}
+use Rattle.braid_run.proofs.PublishedFacts.{heads_within}
+use Rattle.command.specs.Ancestors.{heads}
 use Rattle.command.specs.Closed.{has_id, place_of}
+use Rattle.transaction.specs.Drafts.{with_head, with_id, with_places}
 use Rattle.command.proofs.PlaceFacts.{held_place, place_held}
 use Rattle.transaction.specs.Merging.{is_known}
 use Rattle.command.specs.Wire.{IsFormed, command_id}
@@ -60,3 +64,22 @@ known_first held made id b is holds = holds ∙ ap (λ x. x || has_id made id) (
 
 pub known_later : (held made : List Command) (id : List ℕ) (b : Bool) → has_id held id ≡ false → b ≡ has_id made id → b ≡ is_known held made id
 known_later held made id b none is = is ∙ ap (λ x. x || has_id made id) (sym none)
+
+-- one head more, by the id at its place
+pub head_is : (ids : List (List ℕ)) (o : Option Command) (id : List ℕ) → option_map command_id o ≡ Some id → with_head ids o ≡ with_id ids id
+head_is ids None id is = absurd cc
+head_is ids (Some c) id is = let same : command_id c ≡ id = cc in ap (with_id ids) same
+
+left_at : {X : Type 0} (xs : List X) (i : ℕ) (x : X) → i < length xs → x ≡ get_or xs i x → drop i xs ≡ x ∷ drop (i + 1) xs
+left_at xs i x within is = drop-cons xs i x within ∙ ap (λ y. y ∷ drop (suc i) xs) (sym is) ∙ rw add-one refl
+
+pub one_place : (cs : List Command) (ids : List (List ℕ)) (places : List ℕ) (i place : ℕ) (id : List ℕ) (whole : List (List ℕ)) → i < length places → place ≡ get_or places i place
+    → option_map command_id (slice_get cs place) ≡ Some id → with_places cs ids (drop i places) ≡ whole → with_places cs (with_id ids id) (drop (i + 1) places) ≡ whole
+one_place cs ids places i place id whole within is at so_far =
+    ap (λ l. with_places cs l (drop (i + 1) places)) (sym (head_is ids (slice_get cs place) id at)) ∙ sym (ap (with_places cs ids) (left_at places i place within is)) ∙ so_far
+
+pub inside_heads : (cs : List Command) (places : List ℕ) (i place : ℕ) → places ≡ heads cs → i < length places → place ≡ get_or places i place → place < length cs
+inside_heads cs places i place are within is = subst (λ p. p < length cs) (sym is) (subst (All (λ p. p < length cs)) (sym are) (heads_within cs) i place within)
+
+pub no_place : (cs : List Command) (ids whole : List (List ℕ)) (places : List ℕ) (i : ℕ) → (i < length places → ⊥) → with_places cs ids (drop i places) ≡ whole → ids ≡ whole
+no_place cs ids whole places i over so_far = sym (ap (with_places cs ids) (drop_all i places (omega (arith, over)))) ∙ so_far

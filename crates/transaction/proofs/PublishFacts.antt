@@ -1,6 +1,7 @@
 -- What the steps of a publish come to.
-use Rattle.std.proofs.Common.{◌≡◌, ℕ, ◌+◌, Bool, true, false, if◌then◌else◌, IsTrue, nat_lt, List, [], ◌∷◌, length, Option, Some, None, Result, Ok, Err, refl, sym, ap, subst, ◌∙◌, arith}
+use Rattle.std.proofs.Common.{◌≡◌, ℕ, ◌+◌, ◌<◌, ◌≤◌, Bool, true, false, if◌then◌else◌, IsTrue, nat_lt, List, [], ◌∷◌, length, Option, Some, None, Result, Ok, Err, refl, sym, ap, subst, ◌∙◌, arith}
 use Rattle.std.specs.Prelude.{IfOk, IfSome}
+use Rattle.std.proofs.lemmas.Bool.{lt-ltb, ltb-true}
 use Rattle.base_bytes.specs.Payload.{spelling}
 use Rattle.base_bytes.specs.declared.no_memory.NoMemory.{NoMemory}
 use Rattle.base_bytes.specs.declared.value.Value.{Value}
@@ -28,6 +29,17 @@ use Rattle.transaction.specs.working.Sealing.{Ends, EndsSealed, IsSealed}
 no_seal : (basis : Basis) (r : Result Draft ActFault) (b : Brought) → IsSealOf basis r b None
 no_seal basis (Err why) b = tt
 no_seal basis (Ok draft) b = tt
+
+-- tests of sizes
+is_less : (a b : ℕ) → a < b → nat_lt a b ≡ true
+is_less a b less = lt-ltb a b less
+
+not_less : (a b : ℕ) → b ≤ a → nat_lt a b ≡ false
+not_less a b most = by (nat_lt a b) refl
+  where
+    by : (t : Bool) → nat_lt a b ≡ t → t ≡ false
+    by true is = let less = ltb-true a b is in absurd (omega (arith, less, most))
+    by false is = refl
 
 plus_none : (n : ℕ) → n ≡ n + 0
 plus_none n = omega arith
@@ -80,7 +92,7 @@ module _ (basis : Basis) (old : Draft) (rows : List Row) (n : ℕ) (fields : Lis
   abbrev b : Brought
   b = record { command = n; fields = fields }
 
-  pub too_long : nat_lt 4096 size ≡ true → (steps : ℕ) → Publishes (IsPublish basis) old rows n fields posted.TooLong steps steps old rows
+  pub too_long : 4096 < size → (steps : ℕ) → Publishes (IsPublish basis) old rows n fields posted.TooLong steps steps old rows
   too_long long steps = record {
     ticks = 0;
     counted = plus_none steps;
@@ -89,14 +101,14 @@ module _ (basis : Basis) (old : Draft) (rows : List Row) (n : ℕ) (fields : Lis
       tag = None;
       seal = no_seal basis _ b;
       leaves = subst (λ p. Leaves p old rows posted.TooLong rows 0 old)
-          (sym (ap (λ s. if s then IsTooLong else behind_opening basis (opened basis.held old (declared_at basis.policy n)) rows b None) (ap (nat_lt 4096) (sym sized) ∙ long))) (refl, refl, refl, refl);
+          (sym (ap (λ s. if s then IsTooLong else behind_opening basis (opened basis.held old (declared_at basis.policy n)) rows b None) (ap (nat_lt 4096) (sym sized) ∙ is_less 4096 size long))) (refl, refl, refl, refl);
     };
   }
 
-  module _ (small : nat_lt 4096 size ≡ false) (name : Name) (kind : CommandKind) (declared : declared_at basis.policy n ≡ record { name = name; kind = kind }) where
+  module _ (small : size ≤ 4096) (name : Name) (kind : CommandKind) (declared : declared_at basis.policy n ≡ record { name = name; kind = kind }) where
     behind : (r : Result Draft ActFault) (tag : Option (List ℕ)) → opened basis.held old (record { name = name; kind = kind }) ≡ r → published basis old rows b tag ≡ behind_opening basis r rows b tag
     behind r tag opens =
-        ap (λ s. if s then IsTooLong else behind_opening basis (opened basis.held old (declared_at basis.policy n)) rows b tag) (ap (nat_lt 4096) (sym sized) ∙ small)
+        ap (λ s. if s then IsTooLong else behind_opening basis (opened basis.held old (declared_at basis.policy n)) rows b tag) (ap (nat_lt 4096) (sym sized) ∙ not_less 4096 size small)
         ∙ ap (λ d. behind_opening basis (opened basis.held old d) rows b tag) declared ∙ ap (λ o. behind_opening basis o rows b tag) opens
 
     pub refused : (why : ActFault) → opened basis.held old (record { name = name; kind = kind }) ≡ Err why → (answer : Posted) → answer ≡ posted.Refused → (new : Draft) → new.refusal ≡ Some why → (steps : ℕ)

@@ -1,5 +1,7 @@
 -- A run of an action at a desk of code is one at the desk of drafts, and what each publish keeps holds at the end.
-use Rattle.std.proofs.Common.{◌≡◌, ℕ, List, [], ◌∷◌, ap}
+use Rattle.std.proofs.Common.{◌≡◌, ℕ, List, [], ◌∷◌, Result, Ok, Err, ap, sym, subst}
+use Rattle.std.specs.Prelude.{IfOk}
+use Rattle.base_bytes.specs.declared.no_memory.NoMemory.{NoMemory}
 use Rattle.base_bytes.specs.declared.value.Value.{Value}
 use Rattle.fact_store.specs.declared.row.Row.{Row}
 use Rattle.policy_ast.specs.declared.policy.PlacedItem.{PlacedItem}
@@ -26,6 +28,17 @@ module _ {D : Type 0} (publishes : D → List Row → Posting → D → Type 0) 
     acts = run.acts;
     counted = run.counted;
   }
+
+-- the same of a call's answer, where the draft behind it is the desk's
+pub runs_carried : {D : Type 0} (publishes : D → List Row → Posting → D → Type 0) (policy : List PlacedItem) (action : ℕ) (arguments : List Value) (device : List ℕ) (old new : D) (rows last : List Row) (before now : ℕ)
+    (result : Result ActionEnd NoMemory) → IfOk result (λ end. ActionRun publishes policy action arguments device old rows end before now new last)
+    → (basis : Basis) (seen : D → Draft) (Same : D → Type 0)
+    → ((old : D) (rows : List Row) (p : Posting) (new : D) → Same old → publishes old rows p new → IsPublish basis (seen old) rows p (seen new) × Same new) → Same old
+    → (behind : Draft) → behind ≡ seen new → IfOk result (λ end. ActionRun (IsPublish basis) policy action arguments device (seen old) rows end before now behind last)
+runs_carried publishes policy action arguments device old new rows last before now (Err e) runs basis seen Same step same behind is = tt
+runs_carried publishes policy action arguments device old new rows last before now (Ok end) runs basis seen Same step same behind is =
+    subst (λ d. ActionRun (IsPublish basis) policy action arguments device (seen old) rows end before now d last) (sym is)
+    (run_carried publishes basis seen Same step policy action arguments device old rows end before now new last same runs)
 
 -- what each publish keeps, and what is true of it, holds behind them all
 pub chain_keeps : (basis : Basis) (P : Draft → List Row → Type 0)

@@ -110,20 +110,20 @@ module _ (held : List Command) (P : Draft → Type 0)
   same_draft a b r one other holds = let inner : a ≡ b = cc in subst P inner holds
 
   module _ (n : ℕ) (draft joined : Draft) (more : (next : Draft) → merges held n next ≡ Ok joined → P next → P joined) (holds : P draft) where
-    by_known : (left right : List ℕ) (others : List (List ℕ)) → draft.heads ≡ left ∷ right ∷ others → (k : Bool) → is_known held draft.commands (command_id (command.Merge left right)) ≡ k
+    known_then : (left right : List ℕ) (others : List (List ℕ)) → draft.heads ≡ left ∷ right ∷ others → (k : Bool) → is_known held draft.commands (command_id (command.Merge left right)) ≡ k
         → (if k then Err (command_id (command.Merge left right)) else merges held n (with_merge draft others (command.Merge left right))) ≡ Ok joined → P joined
-    by_known left right others two true known goes = absurd cc
-    by_known left right others two false known goes = more (with_merge draft others (command.Merge left right)) goes (step draft left right others two known holds)
+    known_then left right others two true known goes = absurd cc
+    known_then left right others two false known goes = more (with_merge draft others (command.Merge left right)) goes (step draft left right others two known holds)
 
-    by_heads : (heads : List (List ℕ)) → draft.heads ≡ heads → merge_two held draft heads (merges held n) ≡ Ok joined → P joined
-    by_heads [] two goes = same_draft draft joined (Ok draft) refl goes holds
-    by_heads (left ∷ []) two goes = same_draft draft joined (Ok draft) refl goes holds
-    by_heads (left ∷ right ∷ others) two goes = by_known left right others two _ refl goes
+    heads_then : (heads : List (List ℕ)) → draft.heads ≡ heads → merge_two held draft heads (merges held n) ≡ Ok joined → P joined
+    heads_then [] two goes = same_draft draft joined (Ok draft) refl goes holds
+    heads_then (left ∷ []) two goes = same_draft draft joined (Ok draft) refl goes holds
+    heads_then (left ∷ right ∷ others) two goes = known_then left right others two _ refl goes
 
   -- what each merge keeps holds behind them all
   pub merges_keep : (n : ℕ) (draft joined : Draft) → merges held n draft ≡ Ok joined → P draft → P joined
   merges_keep zero draft joined is holds = same_draft draft joined (Ok draft) refl is holds
-  merges_keep (suc n) draft joined is holds = by_heads n draft joined (λ next goes kept. merges_keep n next joined goes kept) holds draft.heads refl is
+  merges_keep (suc n) draft joined is holds = heads_then n draft joined (λ next goes kept. merges_keep n next joined goes kept) holds draft.heads refl is
 
 has_one_more : (ids : List (List ℕ)) (id : List ℕ) → has_head (with_id ids id) ≡ true
 has_one_more [] id = refl

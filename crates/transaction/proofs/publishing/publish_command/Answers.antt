@@ -25,7 +25,7 @@ pub seal_and_check-requires-clause-placed : goal.seal_and_check-requires-clause-
 seal_and_check-requires-clause-placed g c =
     placed_still (g.G.Graph.commands c.args.graph.now) c.args.draft.now c.open.new.draft
     (record { name = c.declared_command-declared.result.name.now; kind = kind_seen c.declared_command-declared.result.kind })
-    (opens_is _ c.open.new.draft (subst (λ o. Opens _ o c.open.new.draft) c.in-None.is c.in_ok-why.ensures.opens))
+    (opens_is (opened (g.G.Graph.commands c.args.graph.now) c.args.draft.now (record { name = c.declared_command-declared.result.name.now; kind = kind_seen c.declared_command-declared.result.kind })) c.open.new.draft (subst (λ o. Opens (opened (g.G.Graph.commands c.args.graph.now) c.args.draft.now (record { name = c.declared_command-declared.result.name.now; kind = kind_seen c.declared_command-declared.result.kind })) o c.open.new.draft) c.in-None.is c.in_ok-why.ensures.opens))
 
 pub returns-in-Some-clause-publishes : goal.returns-in-Some-clause-publishes
 returns-in-Some-clause-publishes g c =
@@ -33,7 +33,7 @@ returns-in-Some-clause-publishes g c =
     (g.F.FactBase.rows c.args.facts.now) c.args.number c.args.fields c.requires.declared c.len.result (c.len.ensures ∙ ap length c.in_ok-payload.ensures) c.if-len-gt4096.false
     c.declared_command-declared.result.name.now (kind_seen c.declared_command-declared.result.kind)
     (ap (λ p. declared_at p c.args.number) (sym c.policy.ensures.policy) ∙ c.declared_command-declared.ensures) c.in-Some.why
-    (refused_is _ c.in-Some.why c.open.new.draft (subst (λ o. Opens _ o c.open.new.draft) c.in-Some.is c.in_ok-why.ensures.opens)) c.refuse.result c.refuse.ensures.refused c.refuse.new.self
+    (refused_is (opened (g.G.Graph.commands c.args.graph.now) c.args.draft.now (record { name = c.declared_command-declared.result.name.now; kind = kind_seen c.declared_command-declared.result.kind })) c.in-Some.why c.open.new.draft (subst (λ o. Opens (opened (g.G.Graph.commands c.args.graph.now) c.args.draft.now (record { name = c.declared_command-declared.result.name.now; kind = kind_seen c.declared_command-declared.result.kind })) o c.open.new.draft) c.in-Some.is c.in_ok-why.ensures.opens)) c.refuse.result c.refuse.ensures.refused c.refuse.new.self
     (ap (λ d. d.refusal) c.refuse.ensures.noted) c.args.steps.now
 
 pub returns-in-None-clause-publishes : goal.returns-in-None-clause-publishes
@@ -42,5 +42,5 @@ returns-in-None-clause-publishes g c =
     (g.F.FactBase.rows c.args.facts.now) c.args.number c.args.fields c.requires.declared c.len.result (c.len.ensures ∙ ap length c.in_ok-payload.ensures) c.if-len-gt4096.false
     c.declared_command-declared.result.name.now (kind_seen c.declared_command-declared.result.kind)
     (ap (λ p. declared_at p c.args.number) (sym c.policy.ensures.policy) ∙ c.declared_command-declared.ensures) c.open.new.draft
-    (opens_is _ c.open.new.draft (subst (λ o. Opens _ o c.open.new.draft) c.in-None.is c.in_ok-why.ensures.opens)) (g.F.FactBase.rows c.seal_and_check.new.facts) c.args.steps.now c.seal_and_check.new.steps
+    (opens_is (opened (g.G.Graph.commands c.args.graph.now) c.args.draft.now (record { name = c.declared_command-declared.result.name.now; kind = kind_seen c.declared_command-declared.result.kind })) c.open.new.draft (subst (λ o. Opens (opened (g.G.Graph.commands c.args.graph.now) c.args.draft.now (record { name = c.declared_command-declared.result.name.now; kind = kind_seen c.declared_command-declared.result.kind })) o c.open.new.draft) c.in-None.is c.in_ok-why.ensures.opens)) (g.F.FactBase.rows c.seal_and_check.new.facts) c.args.steps.now c.seal_and_check.new.steps
     c.seal_and_check.new.draft c.seal_and_check.result c.seal_and_check.ensures.ends
