@@ -70,7 +70,7 @@ pub head_is : (ids : List (List ℕ)) (o : Option Command) (id : List ℕ) → o
 head_is ids None id is = absurd cc
 head_is ids (Some c) id is = let same : command_id c ≡ id = cc in ap (with_id ids) same
 
-left_at : {X : Type 0} (xs : List X) (i : ℕ) (x : X) → i < length xs → x ≡ get_or xs i x → drop i xs ≡ x ∷ drop (i + 1) xs
+pub left_at : {X : Type 0} (xs : List X) (i : ℕ) (x : X) → i < length xs → x ≡ get_or xs i x → drop i xs ≡ x ∷ drop (i + 1) xs
 left_at xs i x within is = drop-cons xs i x within ∙ ap (λ y. y ∷ drop (suc i) xs) (sym is) ∙ rw add-one refl
 
 pub one_place : (cs : List Command) (ids : List (List ℕ)) (places : List ℕ) (i place : ℕ) (id : List ℕ) (whole : List (List ℕ)) → i < length places → place ≡ get_or places i place

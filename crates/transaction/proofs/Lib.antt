@@ -6,3 +6,5 @@ pub mod Tells
 pub mod HeadFacts
 pub mod DraftTurns
 pub mod PublishFacts
+pub mod ArgumentFacts
+pub mod Ticks
