@@ -1,5 +1,5 @@
 -- The arguments of an action, one by one.
-use Rattle.std.proofs.Common.{◌≡◌, ◌≢◌, ℕ, zero, suc, ◌+◌, ◌<◌, List, [], ◌∷◌, ◌++◌, length, drop, get_or, Option, Some, None, option_map, option_and_then, slice_get, refl, sym, ap, subst, ◌∙◌, append_assoc}
+use Rattle.std.proofs.Common.{◌≡◌, ℕ, suc, ◌+◌, List, [], ◌∷◌, ◌++◌, length, drop, Option, Some, None, option_map, option_and_then, slice_get, refl, sym, ap, subst, ◌∙◌, append_assoc}
 use Rattle.base_bytes.specs.declared.arg.Arg.{Arg}
 use Rattle.base_bytes.specs.declared.ty.Ty.{Ty}
 use Rattle.base_bytes.specs.declared.value.Value.{Value}
@@ -12,7 +12,6 @@ use Rattle.policy_rules.specs.Names.{Name, number_named}
 use Rattle.policy_rules.specs.Shapes.{field_value_types, value_type_of}
 use Rattle.policy_rules.specs.Types.{written_type}
 use Rattle.policy_types.specs.Resolved.{ResolveTo}
-use Rattle.transaction.proofs.DraftFacts.{left_at}
 use Rattle.transaction.specs.Acting.{Action, action_at, action_named, parameters_of, resolved_all}
 
 none_first : (o : Option Value) (rest : Option (List Value)) → rest ≡ None → None ≡ option_and_then (λ v. option_map (λ values. v ∷ values) rest) o

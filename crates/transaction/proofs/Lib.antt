@@ -3,7 +3,6 @@ pub mod DraftFacts
 pub mod CommandFacts
 pub mod Runs
 pub mod Tells
-pub mod HeadFacts
 pub mod DraftTurns
 pub mod PublishFacts
 pub mod ArgumentFacts

@@ -7,7 +7,7 @@ use Rattle.policy_meaning.specs.Desks.{Chain, Posting, brought, total}
 use Rattle.policy_meaning.specs.declared.ends.ActionEnd.{ActionEnd}
 use Rattle.policy_meaning.specs.declared.ends.ActionEnd.TheVariants as end
 use Rattle.policy_meaning.specs.declared.ends.Posted.{Posted}
-use Rattle.transaction.specs.Acting.{Acts, ActsFrom, Made, Request, RunsBody, Start, acted, by_end, by_refusal, made_of, started}
+use Rattle.transaction.specs.Acting.{Acts, ActsFrom, Made, Request, RunsBody, Start, by_end, by_refusal, made_of, started}
 use Rattle.transaction.specs.Drafts.{Basis, Draft, first_draft}
 use Rattle.transaction.specs.Publishing.{Publication, IsTooLong, Refuses, Takes, declared_at}
 use Rattle.transaction.specs.Seals.{IsPublish, Leaves}

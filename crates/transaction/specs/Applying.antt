@@ -1,5 +1,5 @@
 -- What a state holds once the commands of an action are applied.
-use Rattle.std.specs.Prelude.{◌≡◌, ℕ, ◌≤◌, List, [], ◌∷◌, ◌++◌, length, Option, Some, None}
+use Rattle.std.specs.Prelude.{ℕ, ◌≤◌, List, ◌∷◌, ◌++◌, length, Option, Some, None}
 use Rattle.braid_run.specs.States.{Held, IsStanding, HeldAndRoom}
 use Rattle.command.specs.Wire.{command_id}
 use Rattle.command.specs.declared.command.Command.{Command}

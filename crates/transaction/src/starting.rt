@@ -97,7 +97,12 @@ pub struct Start {
 }
 
 /// The action of this name with these arguments.
-pub fn start_of(alloc: Global, policy: &Policy, action: &[u8], args: &[Arg]) -> Result<Start, ActFault>
+pub fn start_of(
+    alloc: Global,
+    policy: &Policy,
+    action: &[u8],
+    args: &[Arg],
+) -> Result<Start, ActFault>
     requires well_typed { IsWellTyped policy.now }
     ensures ok { IfOk result (λ start. start_of (items_of policy.now) args.now (action_named (items_of policy.now) action.now) ≡ Ok (record { action = start.action; arguments = start.arguments })) }
     ensures err { IfErr result (λ why. (why ≡ fault.NoMemory) ⊎ (start_of (items_of policy.now) args.now (action_named (items_of policy.now) action.now) ≡ Err why)) }
