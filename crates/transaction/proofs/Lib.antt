@@ -1,0 +1,9 @@
+-- Lemmas behind the contracts.
+pub mod DraftFacts
+pub mod CommandFacts
+pub mod Runs
+pub mod Tells
+pub mod DraftTurns
+pub mod PublishFacts
+pub mod ArgumentFacts
+pub mod Ticks
