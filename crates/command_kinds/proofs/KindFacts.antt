@@ -3,7 +3,7 @@ use Rattle.std.proofs.Common.{◌≡◌, ◌&&◌, Bool, true, false, cond, List
 use Rattle.std.specs.Prelude.{filter, find}
 use Rattle.std.specs.List.{list_all}
 use Rattle.base_bytes.proofs.Bools.{and_then}
-use Rattle.command_kinds.specs.Kinds.{kind_told, section_told}
+use Rattle.command_kinds.specs.working.Told.{kind_told, section_told}
 use Rattle.policy_ast.specs.declared.item.Attribute.{Attribute}
 use Rattle.policy_ast.specs.declared.item.Section.{Section}
 use Rattle.policy_ast.specs.declared.item.Section.TheVariants as section

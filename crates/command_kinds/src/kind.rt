@@ -1,6 +1,7 @@
 ghost use Rattle.std.specs.Prelude.{◌≡◌, true, [], ◌∷◌, filter, find, option_map};
 ghost use Rattle.std.specs.List.{list_all};
-ghost use Rattle.command_kinds.specs.Kinds.{kind_seen, kind_told, section_told};
+ghost use Rattle.command_kinds.specs.Kinds.{kind_seen};
+ghost use Rattle.command_kinds.specs.working.Told.{kind_told, section_told};
 ghost use Rattle.policy_rules.specs.Commands.{attributes_of, command_kind, has_effect, is_attribute, is_mark};
 
 use policy_ast::{Attribute, Literal, Section};

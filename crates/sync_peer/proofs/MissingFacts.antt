@@ -10,7 +10,7 @@ use Rattle.command.specs.declared.command.Command.{Command}
 use Rattle.command.proofs.AncestorFacts.{kept, was}
 use Rattle.command.proofs.ClosedFacts.{held_by, held_command, same_by_id}
 use Rattle.command.proofs.ListFacts.{at_head, behind_head, each_cut, head_cases, in_middle, split_at}
-use Rattle.sync_peer.specs.Laws.{AreApart, HasOneMissing, HasParents, IsKnownId}
+use Rattle.sync_peer.specs.Laws.{ArePartedInOrder, HasOneMissing, HasParents, IsKnownId}
 use Rattle.sync_peer.specs.Missing.{AreMissing, IsKnown}
 use Rattle.sync_peer.specs.working.Walks.{unknown, walked}
 use Rattle.sync_peer.proofs.WalkFacts.{same_filter, walks_find_missing}
@@ -129,8 +129,8 @@ module _ (cs : List Command) (closed : IsClosed cs) (ids : List (List ℕ)) (mis
   parents_come_first : Each (HasParents cs ids) missing
   parents_come_first = subst (λ l. Each (HasParents cs ids) l) (sym are.same_missing) (all_have_parents [] cs refl)
 
-pub are_apart : (cs : List Command) (ids : List (List ℕ)) (missing : List Command) → IsClosed cs → AreMissing cs ids missing → AreApart cs ids missing
-are_apart cs ids missing closed are = record {
+pub are_parted : (cs : List Command) (ids : List (List ℕ)) (missing : List Command) → IsClosed cs → AreMissing cs ids missing → ArePartedInOrder cs ids missing
+are_parted cs ids missing closed are = record {
   each = is_apart cs closed ids missing are;
   missing_alone = alone cs closed ids missing are;
   parents_first = parents_come_first cs closed ids missing are;

@@ -1,16 +1,17 @@
 -- A session sends just what is missing.
-use Rattle.std.proofs.Common.{◌≡◌, ℕ, ◌+◌, Bool, true, false, IsTrue, List, [], ◌∷◌, ◌++◌, drop, filter, length, nat_lt, take, Some, None, refl, sym, ap, subst, ◌∙◌, arith, append_assoc, append-nil, length-append}
-use Rattle.std.specs.List.{Contains}
+use Rattle.std.proofs.Common.{◌≡◌, ℕ, ◌+◌, Bool, true, false, IsTrue, List, [], ◌∷◌, ◌++◌, drop, filter, length, nat_lt, take, Option, Some, None, refl, sym, ap, subst, ◌∙◌, arith, append_assoc, append-nil, length-append}
+use Rattle.std.specs.List.{All, Contains}
 use Rattle.std.proofs.Math.Seq.{drop-append_seam}
 use Rattle.std.proofs.lemmas.Bool.{ltb-false}
 use Rattle.std.proofs.lemmas.List.{take-append-drop, take_all}
-use Rattle.std.proofs.lemmas.List.Elements.{filter_passes}
+use Rattle.std.proofs.lemmas.List.Elements.{All-cons, All-nil, filter_passes}
 use Rattle.command.specs.Closed.{IsClosed, IsHeld, has_id}
 use Rattle.command.specs.declared.command.Command.{Command}
 use Rattle.command.proofs.ClosedFacts.{held_more}
 use Rattle.command.proofs.ListFacts.{at_head, behind_head}
 use Rattle.sync_codec.specs.declared.request.Request.{Request}
 use Rattle.sync_codec.specs.declared.response.Response.{Response}
+use Rattle.sync_peer.specs.Laws.{NameHeldIds}
 use Rattle.sync_peer.specs.Messages.{IsAnswer, most_sent, next_of, response_of}
 use Rattle.sync_peer.specs.Missing.{AreMissing, held_ids}
 use Rattle.sync_peer.specs.Sessions.{Answer, IsSession, all_sent, last_held}
@@ -130,3 +131,25 @@ sessions_send held graph sample answer answers session =
       from = refl;
     })
     session.3
+
+-- ---- what responses and later requests name
+
+held_ids_held : (cs : List Command) (ids : List (List ℕ)) → All (IsHeld cs) (held_ids cs ids)
+held_ids_held cs [] = All-nil (IsHeld cs)
+held_ids_held cs (id ∷ ids) = by (held_ids_held cs ids) (has_id cs id) refl
+  where
+    by : All (IsHeld cs) (held_ids cs ids) → (b : Bool) → has_id cs id ≡ b → All (IsHeld cs) (held_ids cs (id ∷ ids))
+    by rest true is =
+        let kept : held_ids cs (id ∷ ids) ≡ id ∷ held_ids cs ids = rw is refl in
+        subst (All (IsHeld cs)) (sym kept) (All-cons (IsHeld cs) id (held_ids cs ids) is rest)
+    by rest false is = let left : held_ids cs (id ∷ ids) ≡ held_ids cs ids = rw is refl in subst (All (IsHeld cs)) (sym left) rest
+
+sample_held : (cs : List Command) (request : Request) (response : Response) → IsAnswer cs request response → All (IsHeld cs) response.sample
+sample_held cs request response is = subst (All (IsHeld cs)) (sym (ap (λ r. r.sample) is.same_response)) (held_ids_held cs request.sample)
+
+pub names_held : (answers : List Answer) (held : List Command) (asked : Option Request) → IsSession held asked answers → NameHeldIds answers
+names_held [] held asked session = All-nil (λ answer. All (IsHeld answer.held) answer.response.sample)
+names_held (answer ∷ answers) held None session = absurd session
+names_held (answer ∷ answers) held (Some request) session =
+    All-cons (λ answer. All (IsHeld answer.held) answer.response.sample) answer answers (sample_held answer.held request answer.response session.2)
+    (names_held answers answer.held (next_of answer.response) session.3)

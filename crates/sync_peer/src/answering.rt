@@ -158,7 +158,8 @@ fn response<G: Graph>(
 }
 
 /// The response of who holds this graph to a request about it: the commands that are neither of the held part of the request's sample nor ancestors of
-/// one that is, in stored order, from the place on that is asked for, at most 64 of them. The graph is walked once. Running out of memory is the only error.
+/// one that is, in stored order, from the place on that is asked for, at most 64 of them. Each answer walks the graph twice: back for what is known, and
+/// forward for what isn't. Running out of memory is the only error.
 pub fn answer_to<G: Graph>(
     alloc: Global,
     graph: &G,

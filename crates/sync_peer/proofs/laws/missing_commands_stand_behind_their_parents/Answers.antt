@@ -1,5 +1,5 @@
-use Rattle.sync_peer.proofs.MissingFacts.{are_apart}
+use Rattle.sync_peer.proofs.MissingFacts.{are_parted}
 use Rattle.sync_peer.proofs.laws.missing_commands_stand_behind_their_parents.Goals as goal
 
 pub returns : goal.returns
-returns c = are_apart
+returns c = are_parted
