@@ -1,5 +1,5 @@
 -- What the small steps of statements and of calls come to.
-use Rattle.std.proofs.Common.{◌≡◌, ℕ, zero, suc, ◌+◌, ◌-◌, ◌<◌, ◌≤◌, ◌==◌, Bool, true, false, if◌then◌else◌, List, [], ◌∷◌, find, Option, Some, None, Result, Ok, Err, option_and_then, refl, sym, ap, subst, ◌∙◌, arith}
+use Rattle.std.proofs.Common.{◌≡◌, ℕ, zero, suc, ◌+◌, ◌-◌, ◌<◌, ◌≤◌, ◌==◌, Bool, true, false, if◌then◌else◌, List, [], ◌∷◌, find, Option, Some, None, Result, option_and_then, refl, sym, ap, subst, ◌∙◌, arith}
 use Rattle.std.proofs.lemmas.Bool.Decides.{nat_tests}
 use Rattle.base_bytes.specs.declared.value.Value.{Value}
 use Rattle.fact_store.specs.declared.row.Row.{Row}
@@ -21,7 +21,7 @@ use Rattle.policy_expressions.specs.declared.stop.Stop.TheVariants as stop
 use Rattle.policy_meaning.specs.Arms.{first_body, takes}
 use Rattle.policy_meaning.specs.Environments.{Env, bound_parameters, no_setting}
 use Rattle.policy_meaning.specs.Functions.{called, entered, no_listing}
-use Rattle.policy_meaning.specs.Outcomes.{Out, Done, Ends, Fault, Stuck, with_turn}
+use Rattle.policy_meaning.specs.Outcomes.{Out, Ends, Fault, Stuck, with_turn}
 use Rattle.policy_meaning.specs.Statements.{Ran, Run}
 use Rattle.policy_meaning.specs.declared.ends.FaultKind.TheVariants as fault
 use Rattle.policy_rules.specs.Names.{Name, is_named, item_named}

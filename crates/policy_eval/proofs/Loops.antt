@@ -1,15 +1,14 @@
 -- Evaluations in order: what was found so far, and what is left.
-use Rattle.std.proofs.Common.{◌≡◌, ℕ, ◌+◌, ◌<◌, ◌≤◌, suc, List, [], ◌∷◌, ◌++◌, length, take, drop, get_or, map, Option, Some, None, option_map, Result, Ok, Err, refl, sym, ap, subst, ◌∙◌, arith, add-one}
+use Rattle.std.proofs.Common.{◌≡◌, ℕ, ◌+◌, ◌<◌, suc, List, [], ◌∷◌, ◌++◌, length, take, drop, get_or, map, Option, Some, None, option_map, Result, Ok, Err, refl, sym, ap, subst, ◌∙◌, add-one}
 use Rattle.std.proofs.Math.Seq.{drop-cons, drop-length, take-length}
-use Rattle.std.proofs.lemmas.List.{append_assoc, append-nil, length-append}
+use Rattle.std.proofs.lemmas.List.{append_assoc, append-nil}
 use Rattle.base_bytes.specs.declared.value.Value.{Value}
 use Rattle.fact_store.specs.declared.row.Row.{Row}
-use Rattle.policy_ast.specs.declared.bind.Bind.{Bind}
 use Rattle.policy_ast.specs.declared.expr.Expr.{Expr}
 use Rattle.policy_ast.specs.declared.expr.Let.{Let}
 use Rattle.policy_ast.specs.declared.item.Item.{Item}
 use Rattle.policy_ast.specs.declared.pattern.Free.{Free}
-use Rattle.policy_eval.proofs.Evaluating.{stops_by, stops_then}
+use Rattle.policy_eval.proofs.Evaluating.{stops_by}
 use Rattle.policy_eval.specs.working.Endings.{Evaluates, EvaluatesWithin}
 use Rattle.policy_expressions.specs.Answers.{Gives, Keeps, Leaves, Stops}
 use Rattle.policy_expressions.specs.Meant.{block_meant, gaps_meant, lets_meant, meant}
@@ -18,7 +17,6 @@ use Rattle.policy_expressions.specs.declared.stop.Stop.TheVariants as stop
 use Rattle.policy_meaning.specs.Environments.{Env, Setting, with_value}
 use Rattle.policy_meaning.specs.Outcomes.{Out, Done, Ends, ◌>>=◌}
 use Rattle.policy_meaning.specs.Patterns.{gaps_in_order}
-use Rattle.policy_rules.specs.Names.{Name}
 
 -- what is left at a place: the element there, and what is left behind it
 pub left_at : {A : Type 0} (xs : List A) (i : ℕ) (x : A) → i < length xs → x ≡ get_or xs i x → drop i xs ≡ x ∷ drop (i + 1) xs

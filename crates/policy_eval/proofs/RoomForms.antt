@@ -22,7 +22,7 @@ use Rattle.policy_ast.specs.declared.statement.Else.TheVariants as else_stmt
 use Rattle.policy_ast.specs.declared.statement.IfStmt.{IfStmt}
 use Rattle.policy_ast.specs.declared.statement.Stmt.{Stmt}
 use Rattle.policy_ast.specs.declared.statement.Stmt.TheVariants as stmt
-use Rattle.policy_eval.specs.working.Rooms.{arm_room, bind_room, block_room, call_room, else_room, else_stmt_room, free_room, gap_room, item_room, let_room, of_number, opt_room, pattern_room, room, room_layer, stmt_layer, stmt_room, total}
+use Rattle.policy_eval.specs.working.Rooms.{arm_room, bind_room, block_room, call_room, else_room, else_stmt_room, free_room, gap_room, item_room, let_room, of_number, opt_room, room, room_layer, stmt_layer, stmt_room, total}
 use Rattle.policy_rules.proofs.Folds.{fold-expr-And, fold-expr-Arithmetic, fold-expr-Call, fold-expr-Compare, fold-expr-Count, fold-expr-Exists, fold-expr-Field, fold-expr-If, fold-expr-Is, fold-expr-Or, fold-expr-Query, fold-expr-Some, fold-expr-Struct, fold-expr-Unary, fold-stmt-Check, fold-stmt-If, fold-stmt-Let, fold-stmt-Match, fold-stmt-Return}
 use Rattle.policy_rules.proofs.Maps.{map_bind, map_block, map_else, map_free, map_gap, map_let, map_values, value_part_map}
 use Rattle.policy_rules.proofs.StatementMaps.{map_arm, map_else as map_else_stmt}

@@ -1,5 +1,5 @@
 -- What statements come to, by what was found of their parts one after the other.
-use Rattle.std.proofs.Common.{◌≡◌, ℕ, ◌+◌, ◌<◌, Bool, true, false, List, [], ◌∷◌, length, take, drop, get_or, Option, Some, None, Result, Ok, Err, refl, sym, ap, subst, ◌∙◌, arith}
+use Rattle.std.proofs.Common.{◌≡◌, ℕ, ◌+◌, ◌<◌, Bool, true, false, List, length, drop, get_or, Option, Some, None, Result, Ok, Err, refl, sym, ap, subst, ◌∙◌}
 use Rattle.std.proofs.Math.Seq.{drop-length}
 use Rattle.base_bytes.specs.declared.value.Value.{Value}
 use Rattle.fact_store.specs.declared.row.Row.{Row}
@@ -13,14 +13,12 @@ use Rattle.policy_eval.specs.declared.flow.Flow.TheVariants as flow
 use Rattle.policy_eval.specs.working.Endings.{Comes, Evaluates, Runs, goes_on}
 use Rattle.policy_expressions.specs.Answers.{Gives, Keeps, Stops}
 use Rattle.policy_expressions.specs.Forms.{chosen, truth_of}
-use Rattle.policy_expressions.specs.Meant.{arm_meant, stmt_meant, stmts_meant}
+use Rattle.policy_expressions.specs.Meant.{stmt_meant, stmts_meant}
 use Rattle.policy_expressions.specs.declared.stop.Stop.{Stop}
-use Rattle.policy_expressions.specs.declared.stop.Stop.TheVariants as stop
-use Rattle.policy_meaning.specs.Arms.{first_body}
 use Rattle.policy_meaning.specs.Environments.{Env, Setting}
 use Rattle.policy_meaning.specs.Finish.{Change, Listing}
 use Rattle.policy_meaning.specs.Outcomes.{Out, Done, Ends, Stuck, ◌>>=◌, or_stuck}
-use Rattle.policy_meaning.specs.Statements.{Finishes, Goes, Ran, Returns, Run, ran, then, within}
+use Rattle.policy_meaning.specs.Statements.{Finishes, Goes, Ran, Run, ran, then, within}
 
 abbrev pub Lists : Type 0
 Lists = List FinishStmt → Listing

@@ -1,7 +1,6 @@
 -- What the calls of the evaluator leave, held against what the definitions give.
-use Rattle.std.specs.Prelude.{◌≡◌, ℕ, Bool, true, false, List, length, Option, Some, None, Result, Ok, Err}
+use Rattle.std.specs.Prelude.{◌≡◌, ℕ, Bool, true, false, List, Result, Ok, Err}
 use Rattle.std.specs.Borrow.{Bor}
-use Rattle.base_bytes.specs.declared.value.Value.{Value}
 use Rattle.policy_ast.specs.declared.finish.FinishStmt.{FinishStmt}
 use Rattle.policy_ast.specs.declared.statement.Stmt.{Stmt}
 use Rattle.policy_eval.specs.declared.flow.Flow.{Flow}

@@ -1,5 +1,5 @@
 -- How much room the evaluation of a tree takes: a number that falls with each call of the evaluator.
-use Rattle.std.specs.Prelude.{ℕ, zero, suc, ◌+◌, ◌≤◌, List, [], ◌∷◌, map, Option, Some, None}
+use Rattle.std.specs.Prelude.{ℕ, zero, suc, ◌+◌, ◌≤◌, List, [], ◌∷◌, Option, Some, None}
 use Rattle.policy_ast.specs.declared.bind.Bind.{Bind}
 use Rattle.policy_ast.specs.declared.expr.ElseExpr.{ElseExpr}
 use Rattle.policy_ast.specs.declared.expr.ElseExpr.TheVariants as else_expr
