@@ -22,7 +22,7 @@ use Rattle.policy_expressions.specs.Forms.{check_of, one_named, truth_of}
 use Rattle.policy_expressions.specs.Meant.{meant, wanted_meant}
 use Rattle.policy_expressions.specs.declared.stop.Stop.{Stop as Halted}
 use Rattle.policy_expressions.specs.declared.stop.Stop.TheVariants as stop
-use Rattle.policy_meaning.specs.Actions.{Brought, Deed, Did, Stops, Stop, Halts, Asks, World, ◌>>>◌, each_row, after_answer, inside, published, told, with_turns}
+use Rattle.policy_meaning.specs.Actions.{Deed, Did, Stops, Stop, Halts, World, ◌>>>◌, each_row, after_answer, inside, published, told, with_turns}
 use Rattle.policy_meaning.specs.Arms.{first_body}
 use Rattle.policy_meaning.specs.Desks.{Posting, Publishes, Stay}
 use Rattle.policy_meaning.specs.Environments.{Env, Setting, with_value}
@@ -32,13 +32,11 @@ use Rattle.policy_meaning.specs.Values.{struct_parts}
 use Rattle.policy_meaning.specs.declared.ends.Posted.{Posted}
 use Rattle.policy_rules.specs.Calls.{longest_chain}
 use Rattle.policy_rules.specs.Names.{Name}
-use Rattle.policy_types.specs.ActsWell.{IsCommand}
 use Rattle.policy_eval.proofs.ActionLoops.{keeps_all}
 use Rattle.policy_eval.proofs.ActForms.{acts_all, begins, check_told, choice_told, fails, leaves, let_told, rows_told}
 use Rattle.policy_eval.proofs.ActingFacts.{acted_publish, acted_still, acted_then, goes_from, goes_into}
 use Rattle.policy_eval.proofs.DeedForms.{check_is, choice_is, finish_is, let_is, map_is, match_is, publish_is, return_is}
 use Rattle.policy_eval.specs.declared.cause.Cause.{Cause}
-use Rattle.policy_eval.specs.declared.cause.Cause.TheVariants as cause
 use Rattle.policy_eval.specs.working.Acting.{Acted, Acts, GivesRows, GoesWell, Standing, StopsFor, StopsWell, caused, halted, reason, settled, standing, world}
 use Rattle.policy_eval.specs.working.Deeds.{arm_deed, deed, deeds, else_deed, rows_matching}
 use Rattle.policy_eval.specs.working.Endings.{Evaluates, GivesBody}

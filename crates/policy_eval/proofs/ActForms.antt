@@ -1,5 +1,5 @@
 -- What the code of actions owes for each form: an evaluation, and what it leads on to.
-use Rattle.std.proofs.Common.{◌≡◌, ℕ, Bool, true, false, cond, List, Option, Some, None, Result, Ok, Err, refl, sym, ap, subst, ◌∙◌}
+use Rattle.std.proofs.Common.{◌≡◌, ℕ, Bool, true, false, cond, List, Option, Some, None, Result, Ok, Err, refl, ap, ◌∙◌}
 use Rattle.fact_store.specs.Matching.{selected}
 use Rattle.base_bytes.specs.declared.value.Value.{Value}
 use Rattle.fact_store.specs.declared.row.Row.{Row}
@@ -9,15 +9,14 @@ use Rattle.policy_expressions.specs.Answers.{Leaves, Stops as HaltsBy}
 use Rattle.policy_expressions.specs.Forms.{check_of, truth_of}
 use Rattle.policy_expressions.specs.declared.stop.Stop.{Stop as Halted}
 use Rattle.policy_expressions.specs.declared.stop.Stop.TheVariants as stop
-use Rattle.policy_meaning.specs.Actions.{Act, Answer, Brought, Deed, Did, Stops, Stop, Halts, World, ◌>>>◌, choose, inside, told, with_turns}
+use Rattle.policy_meaning.specs.Actions.{Deed, Did, Stops, Stop, Halts, World, ◌>>>◌, choose, told, with_turns}
 use Rattle.policy_meaning.specs.Desks.{Posting}
 use Rattle.policy_meaning.specs.Environments.{Env}
 use Rattle.policy_meaning.specs.Outcomes.{Halt, Check, Fault, Stuck, Out, Done, Ends, ◌>>=◌, branch, or_stuck}
 use Rattle.policy_meaning.specs.Typed.{AreTyped}
 use Rattle.policy_meaning.specs.Values.{truth}
-use Rattle.policy_eval.proofs.ActingFacts.{acted_all, acted_as, acted_on, acted_still}
+use Rattle.policy_eval.proofs.ActingFacts.{acted_all, acted_on, acted_still}
 use Rattle.policy_eval.specs.declared.cause.Cause.{Cause}
-use Rattle.policy_eval.specs.declared.cause.Cause.TheVariants as cause
 use Rattle.policy_eval.specs.working.Acting.{Acted, Acts, Standing, StopsFor, caused, halted, reason, settled, standing, world}
 
 -- ---- evaluations, and what follows them

@@ -1,13 +1,13 @@
 -- Parts of an action one after another: what is told of each is told of the whole.
-use Rattle.std.proofs.Common.{◌≡◌, ℕ, ◌+◌, List, [], ◌∷◌, ◌++◌, map, Some, refl, sym, ap, subst, ◌∙◌, arith}
+use Rattle.std.proofs.Common.{◌≡◌, ℕ, List, [], ◌∷◌, ◌++◌, map, Some, refl, sym, ap, subst, ◌∙◌, arith}
 use Rattle.std.proofs.lemmas.List.{append-nil, map-append}
 use Rattle.std.proofs.lemmas.List.Sums.{sum_by-append}
 use mathlib.Core.List.{append_assoc}
 use Rattle.base_bytes.specs.declared.value.Value.{Value}
 use Rattle.fact_store.specs.declared.row.Row.{Row}
 use Rattle.policy_ast.specs.declared.policy.PlacedItem.{PlacedItem}
-use Rattle.policy_meaning.specs.Actions.{Answer, Brought, Deed, Did, Stops, Stop, World, ◌>>>◌, after_answer, published}
-use Rattle.policy_meaning.specs.Desks.{Chain, Posting, Publishes, Stay, answer, brought, total}
+use Rattle.policy_meaning.specs.Actions.{Answer, Brought, Deed, Did, Stops, World, ◌>>>◌, after_answer, published}
+use Rattle.policy_meaning.specs.Desks.{Chain, Posting, Publishes, Stay, answer, brought}
 use Rattle.policy_meaning.specs.Typed.{AreTyped}
 use Rattle.policy_meaning.specs.declared.ends.Posted.{Posted}
 use Rattle.policy_types.specs.ActsWell.{LeaveTyped}

@@ -1,5 +1,5 @@
 -- How an action ends: what its calls tell is the meaning of the action with just those answers.
-use Rattle.std.proofs.Common.{◌≡◌, ℕ, Bool, true, false, List, [], ◌++◌, map, slice_get, unwrap_or, IfOk, Option, Some, None, option_and_then, option_map, Result, Ok, Err, refl, sym, ap, subst, ◌∙◌}
+use Rattle.std.proofs.Common.{◌≡◌, ℕ, true, false, List, [], map, slice_get, unwrap_or, IfOk, Option, Some, None, option_and_then, option_map, Result, Ok, Err, refl, sym, ap, subst, ◌∙◌}
 use Rattle.std.proofs.lemmas.Bool.{false≢true}
 use Rattle.std.proofs.lemmas.List.{append-nil}
 use Rattle.std.proofs.lemmas.Option.{same_Some}
@@ -11,18 +11,17 @@ use Rattle.policy_ast.specs.declared.item.Item.TheVariants as item
 use Rattle.policy_ast.specs.declared.policy.PlacedItem.{PlacedItem}
 use Rattle.policy_ast.specs.declared.statement.Stmt.{Stmt}
 use Rattle.policy_expressions.specs.declared.stop.Stop.TheVariants as stop
-use Rattle.policy_meaning.specs.Actions.{Answer, Brought, Deed, Did, Stops, Stop, Halts, IsRefused, World, ◌>>>◌, acted, action_deed, deed_end, action_setting, inside, stop_end, with_turns, world_of}
+use Rattle.policy_meaning.specs.Actions.{Answer, Deed, Did, Stops, Stop, Halts, World, ◌>>>◌, acted, deed_end, action_setting, inside, stop_end, with_turns, world_of}
 use Rattle.policy_meaning.specs.Blocks.{most_turns}
 use Rattle.policy_meaning.specs.Desks.{ActionRun, Acts as IsRun, Posting, answer, brought}
 use Rattle.policy_meaning.specs.Environments.{Env, bound_parameters}
-use Rattle.policy_meaning.specs.Outcomes.{Check, Fault, Stuck}
+use Rattle.policy_meaning.specs.Outcomes.{Stuck}
 use Rattle.policy_meaning.specs.Typed.{AreTyped, IsActionOf, is_action_of}
 use Rattle.policy_meaning.specs.declared.ends.ActionEnd.{ActionEnd}
 use Rattle.policy_meaning.specs.declared.ends.ActionEnd.TheVariants as end
-use Rattle.policy_rules.specs.Names.{Name}
 use Rattle.policy_rules.specs.Types.{declared}
 use Rattle.policy_rules.specs.WellTyped.{items_of}
-use Rattle.policy_types.specs.ActsWell.{ActsWell, LeaveTyped}
+use Rattle.policy_types.specs.ActsWell.{ActsWell}
 use Rattle.policy_types.specs.NeverStuck.{ActionsGoWell}
 use Rattle.policy_eval.proofs.ActForms.{acts_all, inside_told}
 use Rattle.policy_eval.proofs.ActingFacts.{acted_on, acted_still, goes_from, goes_into}

@@ -1,14 +1,13 @@
 -- Blocks of actions statement by statement, and `map` row by row.
-use Rattle.std.proofs.Common.{◌≡◌, ◌≤◌, ◌<◌, ◌==◌, ◌-◌, ℕ, zero, suc, ◌+◌, Bool, true, false, cond, List, [], ◌∷◌, ◌++◌, length, take, drop, get_or, Option, Some, None, Result, Ok, Err, refl, sym, ap, subst, ◌∙◌, arith, add-one}
+use Rattle.std.proofs.Common.{◌≡◌, ◌≤◌, ◌<◌, ◌==◌, ◌-◌, ℕ, zero, suc, ◌+◌, Bool, true, false, cond, List, [], ◌∷◌, ◌++◌, length, take, drop, get_or, refl, sym, ap, subst, ◌∙◌, arith, add-one}
 use Rattle.std.proofs.Math.Seq.{drop-cons}
-use Rattle.std.proofs.lemmas.List.{take-append-le, take-append-drop}
 use Rattle.fact_store.specs.declared.row.Row.{Row}
 use Rattle.policy_ast.specs.declared.item.Item.{Item}
 use Rattle.policy_ast.specs.declared.policy.PlacedItem.{PlacedItem}
 use Rattle.policy_ast.specs.declared.statement.Stmt.{Stmt}
-use Rattle.policy_expressions.specs.Answers.{Keeps, Leaves, Stops as HaltsBy}
+use Rattle.policy_expressions.specs.Answers.{Keeps, Stops as HaltsBy}
 use Rattle.policy_expressions.specs.declared.stop.Stop.{Stop as Halted}
-use Rattle.policy_meaning.specs.Actions.{Act, Deed, Did, Stops, Halts, World, ◌>>>◌, each_row, inside, told, with_turn, with_turns}
+use Rattle.policy_meaning.specs.Actions.{Deed, Did, Stops, Halts, World, ◌>>>◌, each_row, inside, told, with_turn, with_turns}
 use Rattle.policy_meaning.specs.Desks.{Posting}
 use Rattle.policy_meaning.specs.Environments.{Env, Setting, with_value}
 use Rattle.policy_meaning.specs.Outcomes as out
@@ -21,7 +20,7 @@ use Rattle.policy_eval.proofs.ActForms.{begins, fails, inside_told, stops_all, s
 use Rattle.policy_eval.proofs.ActingFacts.{acted_all, acted_on, acted_still, acted_to, goes_from, goes_into}
 use Rattle.policy_eval.proofs.DeedForms.{then_same}
 use Rattle.policy_eval.specs.declared.cause.Cause.{Cause}
-use Rattle.policy_eval.specs.working.Acting.{Acted, Acts, GoesWell, Standing, StopsFor, halted, reason, settled, standing, world}
+use Rattle.policy_eval.specs.working.Acting.{Acted, GoesWell, Standing, StopsFor, halted, reason, settled}
 use Rattle.policy_eval.specs.working.ActionSteps.{BlockSoFar, RowsSoFar}
 use Rattle.policy_eval.specs.working.Deeds.{deed, deeds}
 

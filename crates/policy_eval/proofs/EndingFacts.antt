@@ -15,7 +15,7 @@ use Rattle.policy_expressions.specs.declared.stop.Stop.{Stop}
 use Rattle.policy_expressions.specs.declared.stop.Stop.TheVariants as stop
 use Rattle.policy_meaning.proofs.TypedFacts.{effects_none}
 use Rattle.policy_meaning.specs.Applying.{Checks, Ended, Faults, Passes, Sticks, applied, block_ended}
-use Rattle.policy_meaning.specs.Blocks.{Runs, body_ended, called_sections, command_setting, effects_of, ended, most_turns, policy_block, policy_body, policy_ended, recall_block, recall_body, recall_ended, rows_after, with_sections}
+use Rattle.policy_meaning.specs.Blocks.{Runs, body_ended, called_sections, command_setting, effects_of, most_turns, policy_block, policy_body, policy_ended, recall_block, recall_body, recall_ended, rows_after, with_sections}
 use Rattle.policy_meaning.specs.Environments.{Env, Setting}
 use Rattle.policy_meaning.specs.Finish.{Change}
 use Rattle.policy_meaning.specs.Functions.{finish}

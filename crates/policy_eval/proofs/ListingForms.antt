@@ -1,5 +1,5 @@
 -- What each statement of `finish` lists: one equation a form, over names that stay shut.
-use Rattle.std.proofs.Common.{◌≡◌, ◌==◌, ◌-◌, ℕ, zero, suc, Bool, true, false, cond, List, [], ◌∷◌, ◌++◌, map, Option, Some, None, option_map, refl, sym, ap, ◌∙◌}
+use Rattle.std.proofs.Common.{◌≡◌, ◌==◌, ◌-◌, ℕ, suc, cond, List, [], ◌∷◌, ◌++◌, map, Option, Some, None, refl, sym, ap, ◌∙◌}
 use mathlib.Core.List.{append_assoc}
 use Rattle.base_bytes.specs.declared.value.Value.{Value}
 use Rattle.fact_store.specs.declared.row.Row.{Row}
@@ -13,7 +13,6 @@ use Rattle.policy_ast.specs.declared.item.Item.TheVariants as item
 use Rattle.policy_ast.specs.declared.pattern.Pattern.{Pattern}
 use Rattle.policy_expressions.specs.Meant.{binds_meant, meant, values_meant, wanted_meant}
 use Rattle.policy_meaning.specs.Environments.{Env, Setting, bound_parameters, no_setting}
-use Rattle.policy_meaning.specs.Expressions.{Meaning}
 use Rattle.policy_meaning.specs.Finish.{Change, all_listed, finish_called, finish_entered, listed}
 use Rattle.policy_meaning.specs.Functions.{expression, finish}
 use Rattle.policy_meaning.specs.Outcomes.{Out, Done, Ends, Fault, Stuck, ◌>>=◌, all_in_order, or_stuck, with_turn}

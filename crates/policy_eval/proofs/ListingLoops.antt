@@ -1,5 +1,5 @@
 -- Statements of `finish` one after another.
-use Rattle.std.proofs.Common.{◌≡◌, ◌≤◌, ◌<◌, ℕ, zero, suc, ◌+◌, ◌-◌, ◌==◌, Bool, true, false, cond, List, [], ◌∷◌, ◌++◌, length, drop, get_or, Option, Some, None, option_and_then, Result, Ok, Err, refl, sym, ap, subst, ◌∙◌, arith}
+use Rattle.std.proofs.Common.{◌≡◌, ◌≤◌, ◌<◌, ℕ, suc, ◌+◌, ◌-◌, ◌==◌, Bool, true, false, cond, List, length, drop, get_or, Option, Some, None, option_and_then, Result, refl, sym, ap, subst, ◌∙◌, arith}
 use Rattle.std.proofs.lemmas.Bool.Decides.{nat_tests}
 use Rattle.std.proofs.lemmas.List.{append-nil}
 use Rattle.base_bytes.specs.declared.value.Value.{Value}
@@ -10,13 +10,13 @@ use Rattle.policy_ast.specs.declared.finish.FinishStmt.{FinishStmt}
 use Rattle.policy_ast.specs.declared.finish.FinishStmt.TheVariants as finish
 use Rattle.policy_ast.specs.declared.item.Item.{Item}
 use Rattle.policy_ast.specs.declared.item.Item.TheVariants as item
-use Rattle.policy_expressions.specs.Answers.{Gives, Leaves, Stops, TakesTurn}
+use Rattle.policy_expressions.specs.Answers.{Leaves, Stops}
 use Rattle.policy_expressions.specs.Forms.{one_more}
 use Rattle.policy_expressions.specs.Meant.{values_meant}
 use Rattle.policy_expressions.specs.declared.stop.Stop.{Stop}
 use Rattle.policy_expressions.specs.declared.stop.Stop.TheVariants as stop
 use Rattle.policy_meaning.specs.Environments.{Env, Setting, bound_parameters, no_setting}
-use Rattle.policy_meaning.specs.Finish.{Change, Listing, all_listed, finish_called, finish_entered}
+use Rattle.policy_meaning.specs.Finish.{Change, all_listed, finish_called, finish_entered}
 use Rattle.policy_meaning.specs.Functions.{expression}
 use Rattle.policy_meaning.specs.Outcomes.{Out, Done, Ends, Fault, Stuck, ◌>>=◌, with_turn}
 use Rattle.policy_meaning.specs.declared.ends.FaultKind.TheVariants as fault
@@ -25,7 +25,7 @@ use Rattle.policy_rules.specs.Names.{Name, item_named}
 use Rattle.policy_rules.specs.Types.{declared}
 use Rattle.policy_eval.proofs.ActionLoops.{left_at, past}
 use Rattle.policy_eval.proofs.ListingForms.{behind_first, behind_one, behind_then, call_listed, stmts_same}
-use Rattle.policy_eval.specs.working.Listing.{behind, change_listed, finish_call, one, stmt_listed, stmts_listed}
+use Rattle.policy_eval.specs.working.Listing.{behind, finish_call, one, stmt_listed, stmts_listed}
 use Rattle.policy_eval.specs.working.ListingSteps.{ListSoFar, finish_parts, finish_parts_of}
 
 -- ---- evaluations that end early

@@ -14,25 +14,39 @@ use policy_ast::Policy;
 use policy_meaning::{ActionEnd, Call, Desk, Runner, Verdict};
 use policy_types::Checked;
 use std::alloc::Global;
+use std::marker::Model;
 use std::sync::ledger::Ledger;
 
-/// Runs a well-typed policy over its tree.
+/// Runs a well-typed policy over its tree. Contracts see it as the policy, as they see a `Policy`.
 #[derive(Drop)]
 pub struct TreeRunner {
     checked: Checked,
 }
 
+impl Model for TreeRunner {
+    ghost use Rattle.std.specs.Prelude.{List};
+    ghost use Rattle.std.specs.Coded.{coded_list};
+    ghost use Rattle.policy_ast.specs.contracts.policy.PlacedItem as placed_item;
+    ghost use Rattle.policy_ast.specs.declared.policy.PlacedItem.{PlacedItem};
+
+    ghost Value = { List PlacedItem };
+
+    ghost coded = { coded_list placed_item.the_row.coded };
+
+    ghost view = { λ runner. runner.checked };
+}
+
 impl TreeRunner {
     /// A runner of the policy. Takes no memory.
     pub fn new(policy: Checked) -> TreeRunner
-        ensures { result.checked ≡ policy }
+        ensures { result ≡ policy }
     {
         TreeRunner { checked: policy }
     }
 }
 
 impl Runner for TreeRunner {
-    ghost rules = { λ runner. runner.checked };
+    ghost rules = { λ runner. runner };
 
     fn policy(&self) -> &Policy {
         self.checked.policy()

@@ -6,7 +6,7 @@ use Rattle.policy_ast.specs.declared.policy.PlacedItem.{PlacedItem}
 use Rattle.policy_expressions.specs.Answers.{Stops as HaltsBy}
 use Rattle.policy_expressions.specs.declared.stop.Stop.{Stop as Halted}
 use Rattle.policy_expressions.specs.declared.stop.Stop.TheVariants as stop
-use Rattle.policy_meaning.specs.Actions.{Answer, Brought, Deed, Did, Stops, Stop, Halts, IsRefused, Asks, World, stop_end, with_turns}
+use Rattle.policy_meaning.specs.Actions.{Answer, Brought, Deed, Did, Stops, Stop, Halts, IsRefused, World, stop_end, with_turns}
 use Rattle.policy_meaning.specs.Desks.{Chain, Posting, answer, brought, total}
 use Rattle.policy_meaning.specs.Outcomes.{Check, Fault, Stuck, Out, Done}
 use Rattle.policy_meaning.specs.Typed.{AreTyped}

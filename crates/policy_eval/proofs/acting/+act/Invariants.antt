@@ -1,4 +1,4 @@
-use Rattle.std.specs.Prelude.{◌≡◌, ◌+◌, length}
+use Rattle.std.specs.Prelude.{◌≡◌, ◌+◌}
 use Rattle.std.specs.Vec.Iter.{into_iter_items}
 use Rattle.policy_eval.specs.working.Acting.{standing}
 use Rattle.policy_eval.specs.working.ActionRooms.{deed_room, deeds_room, else_deed_room}

@@ -1,6 +1,5 @@
 use Rattle.std.proofs.Common.{◌∙◌, Some, None, ap, subst, sym}
 use Rattle.std.specs.Option.{option_copied}
-use Rattle.policy_meaning.specs.Applying.{Passes}
 use Rattle.policy_meaning.specs.Blocks.{policy_block, body_ended}
 use Rattle.policy_rules.specs.WellTyped.{items_of}
 use Rattle.policy_eval.proofs.EndingFacts.{ends_as, no_sections, policy_is}
