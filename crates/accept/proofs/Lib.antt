@@ -1,0 +1,9 @@
+mod AnswerFacts
+mod ParallelFacts
+mod FormFacts
+mod PlaceRuns
+mod AddedFacts
+mod TakeFacts
+mod ReasonFacts
+mod AdmitFacts
+mod AdmissionRows
