@@ -1,0 +1,4 @@
+-- What private functions say.
+pub mod Steps
+pub mod Sealing
+pub mod SealLaws
