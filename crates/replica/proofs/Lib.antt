@@ -1,0 +1,4 @@
+-- Lemmas that the proofs of this crate share.
+pub mod FrontFacts
+pub mod TakeFacts
+pub mod KeptFacts

@@ -1,0 +1,7 @@
+-- The definitions that the contracts of this crate cite, in the order in which they are read.
+pub mod Kept
+pub mod Steps
+pub mod Messages
+pub mod Takes
+pub mod Calls
+pub mod working

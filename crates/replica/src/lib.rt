@@ -1,0 +1,13 @@
+//! A replica of a graph under a policy: each call is one step.
+#![tactic(auto)]
+
+mod counts;
+mod front;
+mod messages;
+mod refusal;
+mod replica;
+mod taking;
+
+pub use counts::{Published, Refused, Taken};
+pub use refusal::Refusal;
+pub use replica::Replica;
