@@ -1,5 +1,5 @@
 -- What a well-typed policy says of a command that is published.
-use Rattle.std.proofs.Common.{◌≡◌, ◌&&◌, ◌==◌, ℕ, Bool, true, false, IsTrue, List, [], ◌∷◌, map, length, Option, Some, None, option_map, option_and_then, slice_get, refl, sym, ap, subst, ◌∙◌}
+use Rattle.std.proofs.Common.{◌≡◌, ℕ, true, false, IsTrue, List, map, Option, Some, None, option_map, option_and_then, slice_get, refl, sym, ap, ◌∙◌}
 use Rattle.std.specs.Prelude.{unwrap_or}
 use Rattle.std.specs.List.{list_all}
 use Rattle.std.proofs.lemmas.Bool.{false≢true}
@@ -7,7 +7,7 @@ use Rattle.std.proofs.lemmas.Option.{slice_get-map}
 use Rattle.base_bytes.proofs.Bools.{and_then}
 use Rattle.base_bytes.proofs.ShortValues.{short_from_type}
 use Rattle.base_bytes.specs.Payload.{is_short}
-use Rattle.base_bytes.specs.Values.{are_fields, has_type, shape_at}
+use Rattle.base_bytes.specs.Values.{are_fields, has_type}
 use Rattle.base_bytes.specs.declared.shapes.Shape.TheVariants as shape
 use Rattle.base_bytes.specs.declared.ty.Ty.TheVariants as ty
 use Rattle.base_bytes.specs.declared.value.Value.{Value}
@@ -24,7 +24,7 @@ use Rattle.policy_rules.specs.Names.{Name}
 use Rattle.policy_rules.specs.Shapes.{shape_of, shapes_of}
 use Rattle.policy_rules.specs.WellTyped.{IsWellTyped, items_of}
 use Rattle.policy_types.proofs.Layers.{struct_made}
-use Rattle.transaction.specs.Publishing.{Declared, declared_at, declared_of, not_declared}
+use Rattle.transaction.specs.Publishing.{declared_at, declared_of, not_declared}
 
 -- a command that is declared, by its number
 pub record Stands (policy : List PlacedItem) (n : ℕ) (fields : List Value) : Type 0 where

@@ -1,5 +1,5 @@
 -- Small facts of drafts that are opened.
-use Rattle.std.proofs.Common.{◌≡◌, ℕ, zero, suc, ◌<◌, Bool, true, false, List, [], ◌∷◌, length, map, nat_lt, ◌||◌, option_map, slice_get, get_or, drop, ◌+◌, ◌<◌, drop-cons, add-one, refl, sym, ap, subst, ◌∙◌, arith, Option, Some, None, ◌++◌, if◌then◌else◌}
+use Rattle.std.proofs.Common.{◌≡◌, ℕ, suc, ◌<◌, Bool, true, false, List, [], ◌∷◌, length, map, nat_lt, ◌||◌, option_map, slice_get, get_or, drop, ◌+◌, ◌<◌, drop-cons, add-one, refl, sym, ap, subst, ◌∙◌, arith, Option, Some, None, ◌++◌, if◌then◌else◌}
 use Rattle.std.specs.List.{list_any}
 use Rattle.std.specs.Str.{bytes_eq}
 use Rattle.std.proofs.lemmas.Bool.{false≢true, lt-ltb}
@@ -11,11 +11,12 @@ use Rattle.indexmap.specs.IndexSet.{insert_key}
 use Rattle.std.proofs.lemmas.List.{drop_all}
 use Rattle.braid_run.proofs.PublishedFacts.{heads_within}
 use Rattle.command.specs.Ancestors.{heads}
-use Rattle.command.specs.Closed.{has_id, place_of}
+use Rattle.command.specs.Closed.{IsClosed, IsNext, has_id, place_of}
+use Rattle.command.proofs.ListFacts.{each_right}
 use Rattle.transaction.specs.Drafts.{with_head, with_id, with_places}
 use Rattle.command.proofs.PlaceFacts.{held_place, place_held}
 use Rattle.transaction.specs.Merging.{is_known}
-use Rattle.command.specs.Wire.{IsFormed, command_id}
+use Rattle.command.specs.Wire.{IsFormed, IsInForm, command_id}
 use Rattle.command.specs.declared.command.Command.{Command}
 use Rattle.transaction.specs.Publishing.{added_commands, has_head}
 
@@ -42,10 +43,11 @@ among_ids cs ids id is = ap (list_any (bytes_eq id)) is ∙ go cs
 -- one more command with its id
 pub pushed : (cs all : List Command) (c : Command) (id : List ℕ) (ids new : List (List ℕ)) → ids ≡ map command_id cs → All IsFormed cs → id ≡ command_id c → IsFormed c → has_id cs id ≡ false
     → new ≡ insert_key bytes_eq ids id → all ≡ cs ++ c ∷ [] → (new ≡ map command_id all) × All IsFormed all
-pushed cs all c id ids new named formed own form fresh added more =
-    (added ∙ ap (λ b. if b then ids else ids ++ id ∷ []) (among_ids cs ids id named ∙ fresh)
-    ∙ ap (λ l. l ++ id ∷ []) named ∙ ap (λ i. map command_id cs ++ i ∷ []) own ∙ sym (map-append command_id cs (c ∷ [])) ∙ ap (map command_id) (sym more),
-    subst (All IsFormed) (sym more) (All-push IsFormed cs c formed form))
+pushed cs all c id ids new named formed own form fresh added more = (
+  added ∙ ap (λ b. if b then ids else ids ++ id ∷ []) (among_ids cs ids id named ∙ fresh)
+      ∙ ap (λ l. l ++ id ∷ []) named ∙ ap (λ i. map command_id cs ++ i ∷ []) own ∙ sym (map-append command_id cs (c ∷ [])) ∙ ap (map command_id) (sym more),
+  subst (All IsFormed) (sym more) (All-push IsFormed cs c formed form),
+)
 
 -- an id has a place exactly where it is held
 pub in_graph : (cs : List Command) (id : List ℕ) → is_some (place_of cs id) ≡ has_id cs id
@@ -70,7 +72,7 @@ pub head_is : (ids : List (List ℕ)) (o : Option Command) (id : List ℕ) → o
 head_is ids None id is = absurd cc
 head_is ids (Some c) id is = let same : command_id c ≡ id = cc in ap (with_id ids) same
 
-left_at : {X : Type 0} (xs : List X) (i : ℕ) (x : X) → i < length xs → x ≡ get_or xs i x → drop i xs ≡ x ∷ drop (i + 1) xs
+pub left_at : {X : Type 0} (xs : List X) (i : ℕ) (x : X) → i < length xs → x ≡ get_or xs i x → drop i xs ≡ x ∷ drop (i + 1) xs
 left_at xs i x within is = drop-cons xs i x within ∙ ap (λ y. y ∷ drop (suc i) xs) (sym is) ∙ rw add-one refl
 
 pub one_place : (cs : List Command) (ids : List (List ℕ)) (places : List ℕ) (i place : ℕ) (id : List ℕ) (whole : List (List ℕ)) → i < length places → place ≡ get_or places i place
@@ -83,3 +85,9 @@ inside_heads cs places i place are within is = subst (λ p. p < length cs) (sym 
 
 pub no_place : (cs : List Command) (ids whole : List (List ℕ)) (places : List ℕ) (i : ℕ) → (i < length places → ⊥) → with_places cs ids (drop i places) ≡ whole → ids ≡ whole
 no_place cs ids whole places i over so_far = sym (ap (with_places cs ids) (drop_all i places (omega (arith, over)))) ∙ so_far
+
+-- the first of the commands behind those held is in the wire form
+pub first_formed : (held cs : List Command) (c : Command) → IsClosed (held ++ cs) → slice_get cs 0 ≡ Some c → IsInForm c
+first_formed held [] c closed is = absurd cc
+first_formed held (x ∷ cs) c closed is =
+    let same : x ≡ c = cc in subst IsInForm same (each_right IsNext [] held (x ∷ cs) closed).0.formed.in_form

@@ -1,11 +1,9 @@
 -- Merging turn by turn.
-use Rattle.std.proofs.Common.{◌≡◌, ℕ, zero, suc, ◌+◌, ◌-◌, ◌<◌, ◌≤◌, List, [], ◌∷◌, length, Option, Some, None, Result, Ok, Err, refl, sym, ap, subst, ◌∙◌, arith}
+use Rattle.std.proofs.Common.{◌≡◌, ℕ, suc, ◌+◌, ◌-◌, ◌<◌, ◌≤◌, List, Some, None, Result, Ok, Err, refl, sym, ap, subst, ◌∙◌, arith}
 use Rattle.command.specs.declared.command.Command.{Command}
 use Rattle.transaction.specs.Drafts.{Draft}
 use Rattle.transaction.specs.Merging.{merge_two, merges}
-use Rattle.transaction.specs.working.Steps.{Merges, stepped}
-use Rattle.transaction.specs.declared.opening.Turn.{Turn}
-use Rattle.transaction.specs.declared.opening.Turn.TheVariants as turn
+use Rattle.transaction.specs.working.Steps.{Merges}
 
 -- one turn of so many that are left
 pub one_turn : (held : List Command) (total i : ℕ) (draft : Draft) → i < total → merges held (total - i) draft ≡ merge_two held draft draft.heads (merges held (total - (i + 1)))

@@ -3,6 +3,7 @@ pub mod DraftFacts
 pub mod CommandFacts
 pub mod Runs
 pub mod Tells
-pub mod HeadFacts
 pub mod DraftTurns
 pub mod PublishFacts
+pub mod ArgumentFacts
+pub mod Ticks

@@ -1,5 +1,5 @@
 -- What the steps of a publish come to.
-use Rattle.std.proofs.Common.{◌≡◌, ℕ, ◌+◌, ◌<◌, ◌≤◌, Bool, true, false, if◌then◌else◌, IsTrue, nat_lt, List, [], ◌∷◌, length, Option, Some, None, Result, Ok, Err, refl, sym, ap, subst, ◌∙◌, arith}
+use Rattle.std.proofs.Common.{◌≡◌, ℕ, ◌+◌, ◌<◌, ◌≤◌, Bool, true, false, if◌then◌else◌, IsTrue, nat_lt, List, [], length, Option, Some, None, Result, Ok, Err, refl, sym, ap, subst, ◌∙◌, arith}
 use Rattle.std.specs.Prelude.{IfOk, IfSome}
 use Rattle.std.proofs.lemmas.Bool.{lt-ltb, ltb-true}
 use Rattle.base_bytes.specs.Payload.{spelling}
@@ -11,7 +11,6 @@ use Rattle.command.specs.declared.command.Command.{Command}
 use Rattle.fact_store.specs.declared.row.Row.{Row}
 use Rattle.policy_meaning.specs.Actions.{Brought}
 use Rattle.policy_meaning.specs.Applying.{Ended, Passes, Checks, Faults, Sticks}
-use Rattle.policy_meaning.specs.Blocks.{policy_block}
 use Rattle.policy_meaning.specs.Desks.{Publishes}
 use Rattle.policy_meaning.specs.Typed.{IsCommandOf}
 use Rattle.policy_meaning.specs.declared.ends.Posted.{Posted}
@@ -19,8 +18,7 @@ use Rattle.policy_meaning.specs.declared.ends.Posted.TheVariants as posted
 use Rattle.policy_rules.specs.Commands.{CommandKind}
 use Rattle.policy_rules.specs.Names.{Name}
 use Rattle.transaction.specs.Drafts.{Basis, Draft}
-use Rattle.transaction.specs.Merging.{is_known}
-use Rattle.transaction.specs.Publishing.{Declared, Publication, IsTooLong, Refuses, Takes, behind_opening, call_with, checked, command_of, declared_at, judged, new_command, opened, parent_of, payload_of, published}
+use Rattle.transaction.specs.Publishing.{IsTooLong, Refuses, behind_opening, checked, command_of, declared_at, judged, new_command, opened, parent_of, payload_of, published}
 use Rattle.transaction.specs.Seals.{IsPublish, IsSealOf, Leaves}
 use Rattle.transaction.specs.declared.fault.ActFault.{ActFault}
 use Rattle.transaction.specs.declared.fault.ActFault.TheVariants as fault
@@ -74,8 +72,10 @@ module _ (basis : Basis) (draft : Draft) (rows : List Row) (b : Brought) (name :
         → Ends (checked basis.policy basis.author basis.held draft rows b c) draft rows answer after before now new → EndsSealed basis (Ok draft) b draft rows answer after before now new
     one_sealed answer seal ends = record {
       tag = Some seal.0;
-      seal = (subst (λ m. IsTrue (basis.good basis.author (body m) seal.0)) (sym (made_with [])) seal.2,
-          subst (λ m. IfSome basis.told (λ made. seal.0 ≡ made basis.author (body m))) (sym (made_with [])) seal.3);
+      seal = (
+        subst (λ m. IsTrue (basis.good basis.author (body m) seal.0)) (sym (made_with [])) seal.2,
+        subst (λ m. IfSome basis.told (λ made. seal.0 ≡ made basis.author (body m))) (sym (made_with [])) seal.3,
+      );
       ends = subst (λ m. Ends (checked basis.policy basis.author basis.held draft rows b m) draft rows answer after before now new) (seal.1 ∙ sym (made_with seal.0)) ends;
     }
 

@@ -1,6 +1,5 @@
 -- What a publish tells whose command is taken.
-use Rattle.std.proofs.Common.{◌≡◌, ℕ, zero, suc, ◌+◌, ◌≤◌, Bool, true, false, if◌then◌else◌, nat_lt, List, [], ◌∷◌, ◌++◌, length, Option, Some, None, Result, Ok, Err, refl, sym, ap, subst, ◌∙◌, arith}
-use Rattle.std.specs.BTreeSet.{insert_key}
+use Rattle.std.proofs.Common.{◌≡◌, ℕ, zero, suc, ◌≤◌, Bool, true, false, if◌then◌else◌, nat_lt, List, [], ◌∷◌, length, Option, Some, None, Result, Ok, Err, refl, sym, ap, subst, ◌∙◌, arith}
 use Rattle.std.specs.Cmp.Lexicographic.{slice_cmp}
 use Rattle.std.specs.Ordering.{match_ordering, nat_cmp}
 use Rattle.std.specs.declared.cmp.Ordering.{Ordering}
@@ -14,8 +13,8 @@ use Rattle.policy_meaning.specs.Applying.{Ended, Passes, Checks, Faults, Sticks}
 use Rattle.policy_meaning.specs.Blocks.{policy_block}
 use Rattle.policy_meaning.specs.declared.effect.Effect.{Effect}
 use Rattle.transaction.specs.Drafts.{Draft, Basis, with_id}
-use Rattle.transaction.specs.Merging.{is_known, merge_two, merged, merges, with_merge}
-use Rattle.transaction.specs.Publishing.{Publication, IsTooLong, Refuses, Takes, behind_opening, call_with, checked, command_of, Declared, declared_at, has_head, is_full, is_misplaced, judged, opened, or_collision, payload_of, published, sealed, with_command}
+use Rattle.transaction.specs.Merging.{is_known, merge_two, merges, with_merge}
+use Rattle.transaction.specs.Publishing.{Publication, IsTooLong, Refuses, Takes, behind_opening, call_with, command_of, Declared, declared_at, has_head, is_full, is_misplaced, judged, opened, or_collision, payload_of, published, sealed, with_command}
 use Rattle.transaction.specs.declared.fault.ActFault.{ActFault}
 use Rattle.transaction.specs.working.Steps.{Opens}
 
@@ -51,7 +50,7 @@ module _ (basis : Basis) (old : Draft) (rows : List Row) (b : Brought) (tag : Op
   by_known : (joined : Draft) (t : List ℕ) → nat_lt 4096 (length (payload_of b)) ≡ false → opened basis.held old (declared_at basis.policy b.command) ≡ Ok joined → tag ≡ Some t → (k : Bool)
       → is_known basis.held joined.commands (command_id (the_command joined t)) ≡ k
       → IfTakes IsTaken (if k then Refuses (Rattle.transaction.specs.declared.fault.ActFault.TheVariants.Collision (command_id (the_command joined t))) 0
-        else judged joined (the_command joined t) (declared_at basis.policy b.command).name (policy_block basis.policy (call_with basis.author b (command_id (the_command joined t))) rows))
+      else judged joined (the_command joined t) (declared_at basis.policy b.command).name (policy_block basis.policy (call_with basis.author b (command_id (the_command joined t))) rows))
   by_known joined t small opens tagged true is = tt
   by_known joined t small opens tagged false is = by_block joined t small opens tagged is _ refl
 
@@ -105,7 +104,7 @@ longer_by_one (x ∷ ids) id = by (slice_cmp nat_cmp id x) (longer_by_one ids id
 
 module _ (held : List Command) (P : Draft → Type 0)
     (step : (draft : Draft) (left right : List ℕ) (others : List (List ℕ)) → draft.heads ≡ left ∷ right ∷ others → is_known held draft.commands (command_id (command.Merge left right)) ≡ false → P draft
-        → P (with_merge draft others (command.Merge left right))) where
+    → P (with_merge draft others (command.Merge left right))) where
   same_draft : (a b : Draft) (r : Result Draft (List ℕ)) → r ≡ Ok a → r ≡ Ok b → P a → P b
   same_draft a b r one other holds = let inner : a ≡ b = cc in subst P inner holds
 

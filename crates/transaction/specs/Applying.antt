@@ -1,5 +1,5 @@
 -- What a state holds once the commands of an action are applied.
-use Rattle.std.specs.Prelude.{◌≡◌, ℕ, ◌≤◌, List, [], ◌∷◌, ◌++◌, length, Option, Some, None}
+use Rattle.std.specs.Prelude.{ℕ, ◌≤◌, List, ◌∷◌, ◌++◌, length, Option, Some, None}
 use Rattle.braid_run.specs.States.{Held, IsStanding, HeldAndRoom}
 use Rattle.command.specs.Wire.{command_id}
 use Rattle.command.specs.declared.command.Command.{Command}
@@ -19,8 +19,12 @@ applied held made = record {
   entries = held.entries ++ made.entries;
 }
 
--- There is room for what was made, and it may stand behind what is held.
-pub record IsReady (state : HeldAndRoom) (made : Made) : Type 0 where
+-- There is room for what was made.
+pub record HasRoom (state : HeldAndRoom) (made : Made) : Type 0 where
   pub room : length made.commands ≤ state.room
   pub entry_room : length made.entries ≤ state.entry_room
+
+-- There is room for what was made, and it may stand behind what is held.
+pub record IsReady (state : HeldAndRoom) (made : Made) : Type 0 where
+  pub fits : HasRoom state made
   pub standing : IsStanding (graph_named state.held.graph_id made.commands) (state.held.commands ++ made.commands)

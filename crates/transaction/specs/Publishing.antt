@@ -1,9 +1,7 @@
 -- What one publish comes to. The order of the faults is the order of the definitions.
 use Rattle.std.specs.Prelude.{ℕ, ◌+◌, Bool, true, false, not, if◌then◌else◌, nat_lt, List, [], ◌∷◌, ◌++◌, length, slice_get, Option, Some, None, option_and_then, unwrap_or, Result, Ok, Err}
 use Rattle.base_bytes.specs.Payload.{spelling}
-use Rattle.base_bytes.specs.declared.value.Value.{Value}
 use Rattle.base_bytes.specs.declared.value.Value.TheVariants as value
-use Rattle.braid_run.specs.declared.entry.Entry.{Entry}
 use Rattle.braid_run.specs.declared.entry.Outcome.TheVariants as outcome
 use Rattle.command.specs.Closed.{max_commands}
 use Rattle.command.specs.Wire.{command_id}

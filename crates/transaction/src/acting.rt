@@ -40,7 +40,8 @@ fn first_draft<G: Graph>(alloc: Global, graph: &G) -> Result<Drafted, NoMemory>
     let heads = graph.heads(alloc)?;
     let mut draft = Drafted::new(alloc);
     for place in heads.as_slice() {
-        draft.add_head(graph.id_at(*place))?;
+        let place = *place;
+        draft.add_head(graph.id_at(place))?;
     }
     Ok(draft)
 }

@@ -110,10 +110,7 @@ fn is_full<G: Graph>(graph: &G, draft: &Drafted) -> bool
 pub fn command_policy(alloc: Global, name: &Name, why: Why) -> Result<ActFault, NoMemory>
     ensures { IfOk result (λ it. it ≡ fault.CommandPolicy name.now why) }
 {
-    Ok(ActFault::CommandPolicy(
-        Text::from_slice(alloc, name.as_str())?,
-        why,
-    ))
+    Ok(ActFault::CommandPolicy(Text::from_slice(alloc, name.as_str())?, why))
 }
 
 /// Merges the heads for a command of this name and kind, or tells why it isn't sealed.

@@ -160,8 +160,29 @@ fn seal_and_check<R: Runner, G: Graph, E: Envelope, F: FactBase, L: Ledger>(
     ensures typed { OnOk result (AreTyped (R.rules runner.now) (F.rows facts.new)) }
     ensures cause { HasSealCause draft.old.refusal draft.new.refusal (E.faults env.old) (E.faults env.new) }
 {
-    match seal(alloc, env, draft, digest, author, declared.name, declared.kind, payload)? {
-        Some(command) => check(alloc, runner, graph, draft, author, declared.name, number, fields, command, facts, steps),
+    match seal(
+        alloc,
+        env,
+        draft,
+        digest,
+        author,
+        declared.name,
+        declared.kind,
+        payload,
+    )? {
+        Some(command) => check(
+            alloc,
+            runner,
+            graph,
+            draft,
+            author,
+            declared.name,
+            number,
+            fields,
+            command,
+            facts,
+            steps,
+        ),
         None => Ok(draft.refuse(ActFault::SealFault)),
     }
 }
@@ -195,7 +216,8 @@ pub fn publish_command<R: Runner, G: Graph, E: Envelope, F: FactBase, L: Ledger>
     match open(alloc, graph, draft, declared.name, declared.kind)? {
         Some(why) => Ok(draft.refuse(why)),
         None => seal_and_check(
-            alloc, runner, graph, env, draft, digest, author, &declared, payload, number, fields, facts, steps,
+            alloc, runner, graph, env, draft, digest, author, &declared, payload, number, fields,
+            facts, steps,
         ),
     }
 }

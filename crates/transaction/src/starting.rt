@@ -1,4 +1,4 @@
-ghost use Rattle.std.specs.Prelude.{◌≡◌, ◌⊎◌, true, Ok, Err, IfOk, IfErr, IfSome, option_map};
+ghost use Rattle.std.specs.Prelude.{◌≡◌, ◌<◌, ◌^◌, ◌⊎◌, Ok, Err, IfOk, IfErr, length, option_map};
 ghost use Rattle.policy_meaning.specs.Typed.{IsActionOf};
 ghost use Rattle.policy_rules.specs.Shapes.{field_value_types, shapes_of};
 ghost use Rattle.policy_rules.specs.WellTyped.{IsWellTyped, items_of};
@@ -37,7 +37,8 @@ fn action_at(policy: &Policy, number: u32) -> Option<Action<'_>>
 
 /// The action that a name means, if it means one.
 fn action_named<'a>(policy: &'a Policy, name: &[u8]) -> Option<Action<'a>>
-    ensures { option_map (λ action. record { number = action.number; parameters = action.parameters.now }) result ≡ action_named (items_of policy.now) name.now }
+    ensures action { option_map (λ action. record { number = action.number; parameters = action.parameters.now }) result ≡ action_named (items_of policy.now) name.now }
+    ensures few { length policy.now < 2 ^ 32 }
 {
     let number = number_named(policy.items(), name)?;
     action_at(policy, number as u32)
@@ -53,6 +54,7 @@ fn resolved_all(
     args: &[Arg],
 ) -> Result<Option<Values>, NoMemory>
     requires well_typed { IsWellTyped policy.now }
+    requires few { length heads.now < 2 ^ 32 }
     requires heads { heads.now ≡ items_of policy.now }
     requires shapes { shapes.now ≡ shapes_of (items_of policy.now) }
     ensures { IfOk result (λ values. values ≡ resolved_all (items_of policy.now) (field_value_types (items_of policy.now) parameters.now) args.now) }
@@ -79,6 +81,7 @@ fn arguments(
     args: &[Arg],
 ) -> Result<Option<Values>, NoMemory>
     requires well_typed { IsWellTyped policy.now }
+    requires few { length policy.now < 2 ^ 32 }
     ensures { IfOk result (λ values. values ≡ resolved_all (items_of policy.now) (field_value_types (items_of policy.now) parameters.now) args.now) }
 {
     let heads = Heads::new(alloc, policy)?;
@@ -94,7 +97,12 @@ pub struct Start {
 }
 
 /// The action of this name with these arguments.
-pub fn start_of(alloc: Global, policy: &Policy, action: &[u8], args: &[Arg]) -> Result<Start, ActFault>
+pub fn start_of(
+    alloc: Global,
+    policy: &Policy,
+    action: &[u8],
+    args: &[Arg],
+) -> Result<Start, ActFault>
     requires well_typed { IsWellTyped policy.now }
     ensures ok { IfOk result (λ start. start_of (items_of policy.now) args.now (action_named (items_of policy.now) action.now) ≡ Ok (record { action = start.action; arguments = start.arguments })) }
     ensures err { IfErr result (λ why. (why ≡ fault.NoMemory) ⊎ (start_of (items_of policy.now) args.now (action_named (items_of policy.now) action.now) ≡ Err why)) }

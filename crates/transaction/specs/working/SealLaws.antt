@@ -1,7 +1,6 @@
 -- The laws that the desk owes of what it keeps: nothing rises by itself, and one rise after another is one. They stand here since the desk cites them.
-use Rattle.std.proofs.Common.{◌≡◌, ℕ, ◌+◌, ◌≤◌, ◌⊎◌, inl, inr, Option, Some, None, refl, sym, subst, le_refl, le_trans, arith, ◌∙◌}
-use Rattle.std.specs.Prelude.{min}
-use Rattle.outside.specs.Causes.{Rose, next_count}
+use Rattle.std.proofs.Common.{◌≡◌, ℕ, ◌≤◌, ◌⊎◌, inl, inr, Option, Some, refl, sym, subst, le_refl, le_trans, arith}
+use Rattle.outside.specs.Causes.{Rose}
 use Rattle.transaction.specs.declared.fault.ActFault.{ActFault}
 use Rattle.transaction.specs.declared.fault.ActFault.TheVariants as fault
 use Rattle.transaction.specs.working.Sealing.{HasSealCause, SealRose}

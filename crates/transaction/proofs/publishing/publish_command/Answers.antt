@@ -1,4 +1,4 @@
-use Rattle.std.proofs.Common.{ap, sym, subst, ◌∙◌, length, rules}
+use Rattle.std.proofs.Common.{ap, sym, subst, ◌∙◌, length}
 use Rattle.command_kinds.specs.Kinds.{kind_seen}
 use Rattle.policy_rules.specs.WellTyped.{IsWellTyped}
 use Rattle.transaction.proofs.CommandFacts.{struct_short}
