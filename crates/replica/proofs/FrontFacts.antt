@@ -49,8 +49,8 @@ rest_one_each : (x y : Command) (xs ys : List Command) → AreOneEach (x ∷ xs)
 rest_one_each x y xs ys one a b inside other is = one a b (behind_head x xs a inside) (behind_head y ys b other) is
 
 common : (xs ys : List Command) → AreOneEach xs ys → IsCommonPrefix xs ys (common_prefix_len same_id xs ys)
-common [] ys one = record { within = (omega arith, omega arith); alike = refl; }
-common (x ∷ xs) [] one = record { within = (omega arith, omega arith); alike = refl; }
+common [] ys one = record { within = (omega arith, omega arith); alike = refl }
+common (x ∷ xs) [] one = record { within = (omega arith, omega arith); alike = refl }
 common (x ∷ xs) (y ∷ ys) one = by (same_id x y) refl (common xs ys (rest_one_each x y xs ys one))
   where
     further : x ≡ y → IsCommonPrefix xs ys (common_prefix_len same_id xs ys) → (n : ℕ) → n ≡ suc (common_prefix_len same_id xs ys) → IsCommonPrefix (x ∷ xs) (y ∷ ys) n
@@ -60,7 +60,7 @@ common (x ∷ xs) (y ∷ ys) one = by (same_id x y) refl (common xs ys (rest_one
     }
 
     by : (b : Bool) → same_id x y ≡ b → IsCommonPrefix xs ys (common_prefix_len same_id xs ys) → IsCommonPrefix (x ∷ xs) (y ∷ ys) (cond b (1 + common_prefix_len same_id xs ys) 0)
-    by false is rest = record { within = (omega arith, omega arith); alike = refl; }
+    by false is rest = record { within = (omega arith, omega arith); alike = refl }
     by true is rest =
         further (one x y (at_head x xs) (at_head y ys) (same_bytes (command_id x) (command_id y) is)) rest (1 + common_prefix_len same_id xs ys) (omega arith)
 
@@ -73,14 +73,14 @@ longest (suc n) (x ∷ xs) (y ∷ ys) prefix =
     let same : x ≡ y = cc in
     let rest : take n xs ≡ take n ys = cc in
     by (same_id x y) (bytes_of_same (command_id x) (command_id y) (ap command_id same))
-    (longest n xs ys (record { within = (omega (arith, prefix.within.0), omega (arith, prefix.within.1)); alike = rest; }))
+    (longest n xs ys (record { within = (omega (arith, prefix.within.0), omega (arith, prefix.within.1)); alike = rest }))
   where
     by : (b : Bool) → b ≡ true → n ≤ common_prefix_len same_id xs ys → suc n ≤ cond b (1 + common_prefix_len same_id xs ys) 0
     by true is le = omega (arith, le)
     by false is le = absurd cc
 
 pub cut_of : (before now : List Command) → AreOneEach before now → IsCut before now (common_prefix_len same_id before now)
-cut_of before now one = record { common = common before now one; longest = λ n prefix. longest n before now prefix; }
+cut_of before now one = record { common = common before now one; longest = λ n prefix. longest n before now prefix }
 
 -- the commands of two braids are of one closed list
 pub braids_one_each : (cs more before now : List Command) → IsClosed (cs ++ more) → IsBraid cs before → IsBraid (cs ++ more) now → AreOneEach before now
@@ -92,7 +92,7 @@ pub batch_of : (policy : List PlacedItem) (cs more before now : List Command) (o
     ((xs : List Command) → map (λ e. e.id) (run_of policy xs).entries ≡ map command_id xs) → olds ≡ (run_of policy before).entries → news ≡ (run_of policy now).entries →
     cut ≡ common_prefix_len same_entry olds news → entries ≡ length news - cut → HasBatch policy cs (cs ++ more) cut entries
 batch_of policy cs more before now olds news cut entries closed was is names old new found left = record {
-  batch = record { cut = cut; entries = drop cut (run_of policy now).entries; };
+  batch = record { cut = cut; entries = drop cut (run_of policy now).entries };
   is = record {
     before = before;
     was = was;

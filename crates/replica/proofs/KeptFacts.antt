@@ -40,7 +40,7 @@ good_tag (command.Merge left right) = refl
 abbrev pub KeepsSound : Type 0
 KeepsSound =
     (criteria : Criteria) (graph_id : Option (List ℕ)) (commands : List Command) (command : Command) → AreSound criteria graph_id commands → IsFormed command → IsAdmission criteria graph_id commands command Added →
-        AreSound criteria graph_id (commands ++ command ∷ [])
+    AreSound criteria graph_id (commands ++ command ∷ [])
 
 module _ (sound : KeepsSound) (policy : List PlacedItem) (digest : List ℕ) (good : List ℕ → List ℕ → List ℕ → Bool) (graph_id : Option (List ℕ)) where
   abbrev own : Criteria

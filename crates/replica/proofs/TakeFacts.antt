@@ -28,12 +28,11 @@ module _ (criteria : Criteria) (graph_id : Option (List ℕ)) (below : List Comm
   -- a take with one command more
   pub taken_further : (list : List Command) (c : Command) (before mid behind : Tally) → IsTakenOn criteria graph_id below before list mid → CountsOne criteria graph_id below c mid behind →
       IsTakenOn criteria graph_id below before (list ++ c ∷ []) behind
-  taken_further [] c before mid behind so_far one =
-      (
-        one.answer,
-        subst (λ t. IsAdmission criteria graph_id (below ++ t.added) c one.answer) so_far one.admission,
-        one.same_tally ∙ ap (λ t. counted t c one.answer) so_far,
-      )
+  taken_further [] c before mid behind so_far one = (
+    one.answer,
+    subst (λ t. IsAdmission criteria graph_id (below ++ t.added) c one.answer) so_far one.admission,
+    one.same_tally ∙ ap (λ t. counted t c one.answer) so_far,
+  )
   taken_further (x ∷ list) c before mid behind so_far one =
       let rest : IsTakenOn criteria graph_id below (counted before x so_far.0) list mid = so_far.2 in
       (so_far.0, so_far.1, taken_further list c (counted before x so_far.0) mid behind rest one)
@@ -75,14 +74,14 @@ module _ (sound : KeepsSound) (criteria : Criteria) (held : Held) (response : Re
 
   -- nothing is added
   pub ready_unchanged : added ≡ [] → taken ≡ record { added = 0; repeats = repeats; refused = refused; more = response.more; cut = length held.entries; entries = 0 } → IsReady criteria held response taken None
-  ready_unchanged none told = record { takes = takes; may_change = tt; replica = kept held takes is.typed; }
+  ready_unchanged none told = record { takes = takes; may_change = tt; replica = kept held takes is.typed }
     where
       same : held.commands ≡ held.commands ++ added
       same = sym (append-nil held.commands) ∙ ap (λ l. held.commands ++ l) (sym none)
 
       takes : Takes criteria held response taken held
       takes = record {
-        tally = record { added = added; repeats = repeats; refused = refused; };
+        tally = record { added = added; repeats = repeats; refused = refused };
         take = take;
         told = record {
           added = ap (λ t. t.added) told ∙ sym (ap length none);
@@ -110,7 +109,7 @@ module _ (sound : KeepsSound) (criteria : Criteria) (held : Held) (response : Re
     where
       takes : Takes criteria held response taken (extended held change.commands 0 change.rows change.entries)
       takes = record {
-        tally = record { added = added; repeats = repeats; refused = refused; };
+        tally = record { added = added; repeats = repeats; refused = refused };
         take = take;
         told = record {
           added = ap (λ t. t.added) told ∙ ap length reruns.same_added;

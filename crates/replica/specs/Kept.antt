@@ -37,6 +37,6 @@ begun policy digest author disk = record {
   policy = policy;
   digest = digest;
   author = author;
-  held = record { graph_id = None; commands = []; rows = []; entries = []; };
+  held = record { graph_id = None; commands = []; rows = []; entries = [] };
   disk = disk;
 }

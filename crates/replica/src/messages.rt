@@ -23,11 +23,7 @@ fn refusal_for(graph: &Id, graph_id: &Option<Id>) -> Option<Refusal>
 }
 
 /// The response that the bytes spell, for a replica of the graph.
-pub fn response_for(
-    alloc: Global,
-    bytes: &[u8],
-    graph_id: &Option<Id>,
-) -> Result<Response, Refusal>
+pub fn response_for(alloc: Global, bytes: &[u8], graph_id: &Option<Id>) -> Result<Response, Refusal>
     ensures { IsReply (λ response. IsResponseRead bytes.now graph_id.now (Ok response)) (λ why. IsResponseRead bytes.now graph_id.now (Err why)) result }
 {
     let Some(response) = Response::from_bytes(alloc, bytes)? else {
@@ -40,11 +36,7 @@ pub fn response_for(
 }
 
 /// The request that the bytes spell, for a replica of the graph.
-pub fn request_for(
-    alloc: Global,
-    bytes: &[u8],
-    graph_id: &Option<Id>,
-) -> Result<Request, Refusal>
+pub fn request_for(alloc: Global, bytes: &[u8], graph_id: &Option<Id>) -> Result<Request, Refusal>
     ensures { IsReply (λ request. IsRequestRead bytes.now graph_id.now (Ok request)) (λ why. IsRequestRead bytes.now graph_id.now (Err why)) result }
 {
     let Some(request) = Request::from_bytes(alloc, bytes)? else {

@@ -138,7 +138,13 @@ impl<R: Runner, G: Graph, F: FactBase, D: Disk> Replica<R, G, F, D> {
     {
         let response = response_for(alloc, bytes, &self.state.graph_id())?;
         let ready = prepare_take::<R, G, F, E, L>(
-            alloc, &self.runner, &self.digest, &self.state, &response, env, steps,
+            alloc,
+            &self.runner,
+            &self.digest,
+            &self.state,
+            &response,
+            env,
+            steps,
         )?;
         Ok(ready)
     }

@@ -126,7 +126,15 @@ pub fn admit_all<R: Runner, G: Graph, F: FactBase, E: Envelope, L: Ledger>(
     };
     for command in commands {
         admit_one::<R, G, F, E, L>(
-            alloc, runner, digest, graph_id, over, &mut counts, command, env, steps,
+            alloc,
+            runner,
+            digest,
+            graph_id,
+            over,
+            &mut counts,
+            command,
+            env,
+            steps,
         )?;
     }
     Ok(counts)

@@ -16,7 +16,7 @@ loop-command-preserved g c =
     let item = c.command-item.result in
     let at : slice_get c.args.commands.now i ≡ Some item = slice_get-get_or c.args.commands.now i item c.loop-command-test.true ∙ ap Some (sym c.command-item.is) in
     let one : CountsOne criteria c.args.graph_id.now below item old new =
-        subst (λ l. CountsOne criteria c.args.graph_id.now l item old new) c.loop-command.invariant.base c.in_ok-admit_one.ensures.counts_one in
+    subst (λ l. CountsOne criteria c.args.graph_id.now l item old new) c.loop-command.invariant.base c.in_ok-admit_one.ensures.counts_one in
     record {
       base = c.in_ok-admit_one.ensures.base ∙ c.loop-command.invariant.base;
       taken = taken_next criteria c.args.graph_id.now below c.args.commands.now i item old new at c.loop-command.invariant.taken one;

@@ -11,10 +11,10 @@ returns-then-is_none g c =
     let added = c.admit_all.new.over.added.items in
     let below = c.on-over.ensures.base ∙ c.graph.ensures.commands in
     let take =
-        take_of criteria (record { added = added; repeats = counts.repeats; refused = counts.refused }) c.graph_id-graph_id.result held.graph_id (g.G.Graph.commands c.on-over.result.base.now) held.commands c.as_slice.result.now
-        c.args.response.now.commands c.graph_id-graph_id.ensures below c.as_slice.ensures c.in_ok-repeats.ensures.take in
+    take_of criteria (record { added = added; repeats = counts.repeats; refused = counts.refused }) c.graph_id-graph_id.result held.graph_id (g.G.Graph.commands c.on-over.result.base.now) held.commands c.as_slice.result.now
+    c.args.response.now.commands c.graph_id-graph_id.ensures below c.as_slice.ensures c.in_ok-repeats.ensures.take in
     let standing =
-        standing_of c.graph_id-graph_id.result held.graph_id (g.G.Graph.commands c.admit_all.new.over.base.now) held.commands added c.graph_id-graph_id.ensures (c.in_ok-repeats.ensures.base ∙ below) c.in_ok-repeats.ensures.standing in
+    standing_of c.graph_id-graph_id.result held.graph_id (g.G.Graph.commands c.admit_all.new.over.base.now) held.commands added c.graph_id-graph_id.ensures (c.in_ok-repeats.ensures.base ∙ below) c.in_ok-repeats.ensures.standing in
     let olds = c.as_slice-olds.ensures ∙ c.entries.ensures in
     let none : added ≡ [] = sym c.as_slice-2.ensures.value ∙ c.is_none.ensures c.if-is_none.true in
     ready_unchanged c.added_commands_are_sound.ensures.sound criteria held c.args.response.now _ added counts.repeats counts.refused c.requires.formed standing c.requires.replica (c.lists_have_one_run.ensures.named criteria.policy) take none
@@ -28,10 +28,10 @@ returns g c =
     let added = c.admit_all.new.over.added.items in
     let below = c.on-over.ensures.base ∙ c.graph.ensures.commands in
     let take =
-        take_of criteria (record { added = added; repeats = counts.repeats; refused = counts.refused }) c.graph_id-graph_id.result held.graph_id (g.G.Graph.commands c.on-over.result.base.now) held.commands c.as_slice.result.now
-        c.args.response.now.commands c.graph_id-graph_id.ensures below c.as_slice.ensures c.in_ok-repeats.ensures.take in
+    take_of criteria (record { added = added; repeats = counts.repeats; refused = counts.refused }) c.graph_id-graph_id.result held.graph_id (g.G.Graph.commands c.on-over.result.base.now) held.commands c.as_slice.result.now
+    c.args.response.now.commands c.graph_id-graph_id.ensures below c.as_slice.ensures c.in_ok-repeats.ensures.take in
     let standing =
-        standing_of c.graph_id-graph_id.result held.graph_id (g.G.Graph.commands c.admit_all.new.over.base.now) held.commands added c.graph_id-graph_id.ensures (c.in_ok-repeats.ensures.base ∙ below) c.in_ok-repeats.ensures.standing in
+    standing_of c.graph_id-graph_id.result held.graph_id (g.G.Graph.commands c.admit_all.new.over.base.now) held.commands added c.graph_id-graph_id.ensures (c.in_ok-repeats.ensures.base ∙ below) c.in_ok-repeats.ensures.standing in
     let olds = c.as_slice-olds.ensures ∙ c.entries.ensures in
     let parts = c.in_ok-change.field-0 in
     let reruns = reruns_of criteria.policy (g.G.Graph.commands c.admit_all.new.over.base.now) held.commands added c.as_slice-olds.result.now held.entries _ parts.cut parts.entries (c.in_ok-repeats.ensures.base ∙ below) olds c.in_ok-change.ensures in
