@@ -7,3 +7,5 @@ pub mod DraftTurns
 pub mod PublishFacts
 pub mod ArgumentFacts
 pub mod Ticks
+pub mod HeadFacts
+pub mod StandingFacts

@@ -1,10 +1,11 @@
 ghost use Rattle.std.specs.Prelude.{◌≡◌, ◌+◌, ◌≤◌, true, None, IfOk, IfErr, length};
 ghost use Rattle.std.specs.List.{All};
+ghost use Rattle.braid_run.specs.Published.{ArePublished};
 ghost use Rattle.command.specs.Wire.{IsFormed};
 ghost use Rattle.outside.specs.Causes.{Rose};
 ghost use Rattle.policy_meaning.specs.Typed.{AreTyped};
 ghost use Rattle.transaction.specs.Acting.{Acts, Answers};
-ghost use Rattle.transaction.specs.Applying.{HasRoom};
+ghost use Rattle.transaction.specs.Applying.{IsReady};
 ghost use Rattle.transaction.specs.declared.fault.ActFault.TheVariants as fault;
 ghost use Rattle.transaction.specs.working.Sealing.{basis_of};
 
@@ -82,7 +83,8 @@ pub fn prepare<R: Runner, G: Graph, F: FactBase, E: Envelope, L: Ledger>(
         (λ r. Acts (basis_of (R.rules runner.now) digest.now E.good E.tag_of author.now state.old.held.commands) state.old.held.rows (record { action = action.now; arguments = args.now; first = first }) r steps.old steps.new) result }
     ensures held { state.new.held ≡ state.old.held }
     ensures room { (state.old.room ≤ state.new.room) × (state.old.entry_room ≤ state.new.entry_room) }
-    ensures fits { IfOk result (λ p. HasRoom state.new (record { commands = p.commands; merges = p.merges; entries = p.entries.all; rows = F.rows p.facts })) }
+    ensures ready { IfOk result (λ p. IsReady state.new (record { commands = p.commands; merges = p.merges; entries = p.entries.all; rows = F.rows p.facts })) }
+    ensures published { IfOk result (λ p. ArePublished state.old.held.commands p.commands) }
     ensures typed { IfOk result (λ p. AreTyped (R.rules runner.now) (F.rows p.facts)) }
     ensures ticks { IfOk result (λ p. steps.new ≡ steps.old + length p.entries.all) }
     ensures later { E.faults env.old ≤ E.faults env.new }
