@@ -9,3 +9,5 @@ pub mod ArgumentFacts
 pub mod Ticks
 pub mod HeadFacts
 pub mod StandingFacts
+pub mod MadeCalls
+pub mod SoundFacts

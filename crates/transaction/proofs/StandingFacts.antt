@@ -25,7 +25,7 @@ use Rattle.transaction.specs.Acting.{Acts, Made, Request, Start, is_none}
 use Rattle.transaction.specs.Applying.{graph_named}
 use Rattle.transaction.specs.Drafts.{Basis, Draft, first_draft, with_id}
 use Rattle.transaction.specs.Merging.{is_known, merge_two, merges, with_merge}
-use Rattle.transaction.specs.Publishing.{Publication, IsTooLong, Refuses, Takes, added_commands, declared_at, has_head, is_misplaced, new_command, parent_of, payload_of, with_command}
+use Rattle.transaction.specs.Publishing.{added_commands, declared_at, has_head, is_full, is_misplaced, new_command, parent_of, payload_of, with_command}
 use Rattle.transaction.specs.Seals.{IsPublish, Leaves}
 use Rattle.transaction.specs.declared.fault.ActFault.{ActFault}
 use Rattle.transaction.specs.declared.fault.ActFault.TheVariants as fault
@@ -158,9 +158,12 @@ module _ (graph_id : Option (List ℕ)) (held : List Command) (unnamed : held �
 
   -- ---- the merges
 
-  record Joins (draft : Draft) : Type 0 where
-    stands : All IsFormed draft.commands → Stands graph_id held draft
-    room : length held + length draft.commands + added_commands draft.heads ≤ max_commands
+  pub record Joins (draft : Draft) : Type 0 where
+    pub stands : All IsFormed draft.commands → Stands graph_id held draft
+    pub room : length held + length draft.commands + added_commands draft.heads ≤ max_commands
+
+  pub first_room : (old : Draft) → is_full held old ≡ false → length held + length old.commands + added_commands old.heads ≤ max_commands
+  first_room old room = within (length held + length old.commands + added_commands old.heads) room
 
   merge_follows : (heads : List (List ℕ)) (left right : List ℕ) (others : List (List ℕ)) → heads ≡ left ∷ right ∷ others → Follows heads (command.Merge left right)
   merge_follows heads left right others two = record {
@@ -177,7 +180,7 @@ module _ (graph_id : Option (List ℕ)) (held : List Command) (unnamed : held �
                 behind_head left (right ∷ others) id (subst (λ z. Contains (right ∷ others) z) (one_element right id later) (at_head right others))
           ]
 
-  merge_joins : (draft : Draft) (left right : List ℕ) (others : List (List ℕ)) → draft.heads ≡ left ∷ right ∷ others → is_known held draft.commands (command_id (command.Merge left right)) ≡ false → Joins draft
+  pub merge_joins : (draft : Draft) (left right : List ℕ) (others : List (List ℕ)) → draft.heads ≡ left ∷ right ∷ others → is_known held draft.commands (command_id (command.Merge left right)) ≡ false → Joins draft
       → Joins (with_merge draft others (command.Merge left right))
   merge_joins draft left right others two fresh joins = record {
     stands = λ formed.
@@ -239,22 +242,25 @@ new_is_plain digest author parent Init name payload tag = refl
 new_is_plain digest author parent (Basic priority) name payload tag = refl
 new_is_plain digest author parent Finalize name payload tag = refl
 
+-- a plain command has all heads as parents
+pub plain_links : (heads : List (List ℕ)) (c : Command) → is_merge c ≡ false → (is_merge c ≡ true) ⊎ ((id : List ℕ) → Contains heads id → Contains (parents_of c) id) → (id : List ℕ) → Contains heads id
+    → Contains (parents_of c) id
+plain_links heads c plain (inl merge) = let both : true ≡ false = sym merge ∙ plain in absurd cc
+plain_links heads c plain (inr all) = all
+
 -- the heads that a plain command leaves: itself
 heads_follow : (cs : List Command) (heads : List (List ℕ)) (c : Command) → HasHeads cs heads → Follows heads c → is_merge c ≡ false → HasHeads (cs ++ c ∷ []) (command_id c ∷ [])
-heads_follow cs heads c has follows plain = heads_behind cs c heads [] has (λ id inside. inl (links follows.last id inside)) (λ id none. absurd (none_element id none))
-  where
-    links : (is_merge c ≡ true) ⊎ ((id : List ℕ) → Contains heads id → Contains (parents_of c) id) → (id : List ℕ) → Contains heads id → Contains (parents_of c) id
-    links (inl merge) = let both : true ≡ false = sym merge ∙ plain in absurd cc
-    links (inr all) = all
+heads_follow cs heads c has follows plain =
+    heads_behind cs c heads [] has (λ id inside. inl (plain_links heads c plain follows.last id inside)) (λ id none. absurd (none_element id none))
 
 module _ (basis : Basis) (graph_id : Option (List ℕ)) (unnamed : basis.held ≡ [] → graph_id ≡ None) where
   module _ (old : Draft) (rows : List Row) (b : Brought) (tag : Option (List ℕ)) (draft : Draft) (after : List Row) (t : IsTaken basis old rows b tag draft after)
       (before : All IsFormed old.commands → Stands graph_id basis.held old) where
-    joins : Joins graph_id basis.held unnamed t.joined
+    pub joins : Joins graph_id basis.held unnamed t.joined
     joins =
         let it = opening_tells basis.held old t.joined (declared_at basis.policy b.command) t.opens in
         merges_keep basis.held (Joins graph_id basis.held unnamed) (merge_joins graph_id basis.held unnamed) (length old.heads) old t.joined it.merged
-        (record { stands = before; room = within (length basis.held + length old.commands + added_commands old.heads) it.room })
+        (record { stands = before; room = first_room graph_id basis.held unnamed old it.room })
 
     pub follows : Follows t.joined.heads (the_command basis old rows b tag t.joined t.the_tag)
     follows =
@@ -266,10 +272,13 @@ module _ (basis : Basis) (graph_id : Option (List ℕ)) (unnamed : basis.held �
     pub is_plain : is_merge (the_command basis old rows b tag t.joined t.the_tag) ≡ false
     is_plain = new_is_plain basis.digest basis.author (parent_of t.joined.heads) (declared_at basis.policy b.command).kind (declared_at basis.policy b.command).name (payload_of b) t.the_tag
 
-    pub joined_stands : All IsFormed t.joined.commands → Stands graph_id basis.held t.joined
-    joined_stands formed = joins.stands formed
+    -- the command stands behind all
+    pub taken_behind : All IsFormed t.joined.commands → IsBehindAll (basis.held ++ t.joined.commands) (the_command basis old rows b tag t.joined t.the_tag)
+    taken_behind formed =
+        behind_heads (basis.held ++ t.joined.commands) t.joined.heads (the_command basis old rows b tag t.joined t.the_tag) (joins.stands formed).heads
+        (plain_links t.joined.heads (the_command basis old rows b tag t.joined t.the_tag) is_plain follows.last)
 
-    command_stands : All IsFormed (t.joined.commands ++ the_command basis old rows b tag t.joined t.the_tag ∷ [])
+    pub command_stands : All IsFormed (t.joined.commands ++ the_command basis old rows b tag t.joined t.the_tag ∷ [])
         → Stands graph_id basis.held (with_command t.joined (the_command basis old rows b tag t.joined t.the_tag) t.effects)
     command_stands formed =
         let c = the_command basis old rows b tag t.joined t.the_tag in
@@ -282,25 +291,7 @@ module _ (basis : Basis) (graph_id : Option (List ℕ)) (unnamed : basis.held �
           published = published_by graph_id basis.held unnamed t.joined c stands follows;
         }
 
-    pub taken_stands : All IsFormed draft.commands → Stands graph_id basis.held draft
-    taken_stands formed = subst (Stands graph_id basis.held) (sym t.is) (command_stands (subst (λ d. All IsFormed d.commands) t.is formed))
-
-  abbrev Keeps : Draft → List Row → Type 0
-  Keeps draft rows = draft.refusal ≡ None → All IsFormed draft.commands → Stands graph_id basis.held draft
-
-  step_by : (old : Draft) (rows : List Row) (b : Brought) (tag : Option (List ℕ)) (q : Publication) → IfTakes (IsTaken basis old rows b tag) q → (answer : Posted) (after : List Row) (ticks : ℕ) (new : Draft)
-      → Leaves q old rows answer after ticks new → Keeps old rows → Keeps new after
-  step_by old rows b tag (Takes draft last) taken answer after ticks new leaves keeps none =
-      let kept = opening_keeps basis old rows b tag draft last taken in
-      let before : old.refusal ≡ None = sym kept.0 ∙ sym (ap (λ d. d.refusal) (leaves.3 ∙ taken.is)) ∙ none in
-      subst (λ d. All IsFormed d.commands → Stands graph_id basis.held d) (sym leaves.3) (taken_stands old rows b tag draft last taken (keeps before))
-  step_by old rows b tag IsTooLong taken answer after ticks new leaves keeps none = subst (λ d. d.refusal ≡ None → All IsFormed d.commands → Stands graph_id basis.held d) (sym leaves.3) keeps none
-  step_by old rows b tag (Refuses why run) taken answer after ticks new leaves keeps none = let both : Some why ≡ None = sym leaves.3 ∙ none in absurd cc
-
-  step : (old : Draft) (rows : List Row) (p : Posting) (new : Draft) → IsPublish basis old rows p new → Keeps old rows → Keeps new p.rows
-  step old rows p new is keeps = step_by old rows (brought p) is.tag _ (tells basis old rows (brought p) is.tag) p.posted p.rows p.ticks new is.leaves keeps
-
-  first_stands : IsStanding graph_id basis.held → Stands graph_id basis.held (first_draft basis.held)
+  pub first_stands : IsStanding graph_id basis.held → Stands graph_id basis.held (first_draft basis.held)
   first_stands standing = record {
     standing = subst (IsStanding (graph_named graph_id [])) (sym (append-nil basis.held)) (named_standing graph_id basis.held [] standing);
     heads = subst (λ l. HasHeads l (first_draft basis.held).heads) (sym (append-nil basis.held)) (first_heads basis.held standing.closed);
@@ -309,33 +300,7 @@ module _ (basis : Basis) (graph_id : Option (List ℕ)) (unnamed : basis.held �
 
 -- ---- an action
 
-begun : (first : Bool) (held : List Command) (r : Result Start ActFault) (start : Start) → (if not first && is_none held then Err fault.NoGraph else r) ≡ Ok start → held ≡ [] → first ≡ true
+pub begun : (first : Bool) (held : List Command) (r : Result Start ActFault) (start : Start) → (if not first && is_none held then Err fault.NoGraph else r) ≡ Ok start → held ≡ [] → first ≡ true
 begun true held r start is empty = refl
 begun false [] r start is empty = absurd cc
 begun false (c ∷ held) r start is empty = absurd cc
-
-pub record HasStood (graph_id : Option (List ℕ)) (held : List Command) (made : Made) : Type 0 where
-  pub standing : IsStanding (graph_named graph_id made.commands) (held ++ made.commands)
-  pub published : ArePublished held made.commands
-
--- what an action has made stands behind what is held
-pub made_stands : (basis : Basis) (graph_id : Option (List ℕ)) (rows : List Row) (request : Request) (made : Made) (before now : ℕ) → Acts basis rows request (Ok made) before now
-    → IsStanding graph_id basis.held → (request.first ≡ true → graph_id ≡ None) → All IsFormed made.commands → HasStood graph_id basis.held made
-made_stands basis graph_id rows request made before now acts standing named formed =
-    let all = done basis rows request made before now acts in
-    let d = all.2 in
-    let unnamed : basis.held ≡ [] → graph_id ≡ None = λ empty. named (begun request.first basis.held _ all.0 all.1 empty) in
-    let commands : made.commands ≡ d.draft.commands = ap (λ m. m.commands) d.is in
-    let stands =
-    chain_keeps basis (Keeps basis graph_id unnamed) (step basis graph_id unnamed) (first_draft basis.held) rows d.postings d.draft d.last d.chain (λ none all_formed. first_stands basis graph_id unnamed standing)
-    d.none (subst (All IsFormed) commands formed) in
-    record {
-      standing = subst (λ l. IsStanding (graph_named graph_id l) (basis.held ++ l)) (sym commands) stands.standing;
-      published = subst (λ l. ArePublished basis.held l) (sym commands) stands.published;
-    }
-
--- the same for what a state holds
-pub made_for : (basis : Basis) (held : Held) → basis.held ≡ held.commands → (rows : List Row) (request : Request) (made : Made) (before now : ℕ) → Acts basis rows request (Ok made) before now
-    → IsStanding held.graph_id held.commands → (request.first ≡ true → held.graph_id ≡ None) → All IsFormed made.commands → HasStood held.graph_id held.commands made
-made_for basis held is rows request made before now acts standing named formed =
-    subst (λ l. HasStood held.graph_id l made) is (made_stands basis held.graph_id rows request made before now acts (subst (IsStanding held.graph_id) (sym is) standing) named formed)

@@ -1,6 +1,7 @@
 ghost use Rattle.std.specs.Prelude.{◌≡◌, [], ◌∷◌, ◌++◌, None, IfSome, length};
+ghost use Rattle.braid_run.specs.Soundness.{Criteria, IsSound};
 ghost use Rattle.command.specs.Closed.{IsClosed};
-ghost use Rattle.transaction.specs.Applying.{IsReady, applied, graph_named};
+ghost use Rattle.transaction.specs.Applying.{IsPublishedOn, IsReady, applied, graph_named};
 
 use crate::acting::Prepared;
 use braid_run::{Ran, State};
@@ -21,10 +22,12 @@ fn name_by_first<G: Graph, F: FactBase>(state: &mut State<G, F>, commands: &[Com
 }
 
 /// Applies what was prepared for this state: the commands stand behind those held, the entries behind those held, and the facts are the new ones. A
-/// graph without an id gets that of its first command. Takes no memory.
+/// graph without an id gets that of its first command. A sound state stays sound. Takes no memory.
 pub fn apply<G: Graph, F: FactBase>(state: &mut State<G, F>, prepared: Prepared<F>)
     requires ready { IsReady state.old (record { commands = prepared.commands; merges = prepared.merges; entries = prepared.entries.all; rows = F.rows prepared.facts }) }
     ensures held { state.new.held ≡ applied state.old.held (record { commands = prepared.commands; merges = prepared.merges; entries = prepared.entries.all; rows = F.rows prepared.facts }) }
+    ensures sound { (criteria : Criteria) → IsSound criteria state.old.held
+        → IsPublishedOn criteria state.old.held (record { commands = prepared.commands; merges = prepared.merges; entries = prepared.entries.all; rows = F.rows prepared.facts }) → IsSound criteria state.new.held }
 {
     let Prepared {
         commands,

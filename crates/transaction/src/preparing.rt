@@ -1,11 +1,11 @@
 ghost use Rattle.std.specs.Prelude.{◌≡◌, ◌+◌, ◌≤◌, true, None, IfOk, IfErr, length};
 ghost use Rattle.std.specs.List.{All};
-ghost use Rattle.braid_run.specs.Published.{ArePublished};
 ghost use Rattle.command.specs.Wire.{IsFormed};
 ghost use Rattle.outside.specs.Causes.{Rose};
 ghost use Rattle.policy_meaning.specs.Typed.{AreTyped};
+ghost use Rattle.policy_rules.specs.WellTyped.{IsWellTyped};
 ghost use Rattle.transaction.specs.Acting.{Acts, Answers};
-ghost use Rattle.transaction.specs.Applying.{IsReady};
+ghost use Rattle.transaction.specs.Applying.{IsPublishedOn, IsReady};
 ghost use Rattle.transaction.specs.declared.fault.ActFault.TheVariants as fault;
 ghost use Rattle.transaction.specs.working.Sealing.{basis_of};
 
@@ -40,6 +40,7 @@ fn act<R: Runner, G: Graph, F: FactBase, E: Envelope, L: Ledger>(
         (λ r. Acts (basis_of (R.rules runner.now) digest.now E.good E.tag_of author.now (G.commands graph.now)) (F.rows facts.now) (record { action = action.now; arguments = args.now; first = first }) r steps.old steps.new) result }
     ensures typed { IfOk result (λ p. AreTyped (R.rules runner.now) (F.rows p.facts)) }
     ensures formed { IfOk result (λ p. All IsFormed p.commands) }
+    ensures well_typed { IfOk result (λ p. IsWellTyped (R.rules runner.now)) }
     ensures later { E.faults env.old ≤ E.faults env.new }
     ensures cause { IfErr result (λ why. why ≡ fault.SealFault → Rose (E.faults env.old) (E.faults env.new)) }
 {
@@ -84,7 +85,7 @@ pub fn prepare<R: Runner, G: Graph, F: FactBase, E: Envelope, L: Ledger>(
     ensures held { state.new.held ≡ state.old.held }
     ensures room { (state.old.room ≤ state.new.room) × (state.old.entry_room ≤ state.new.entry_room) }
     ensures ready { IfOk result (λ p. IsReady state.new (record { commands = p.commands; merges = p.merges; entries = p.entries.all; rows = F.rows p.facts })) }
-    ensures published { IfOk result (λ p. ArePublished state.old.held.commands p.commands) }
+    ensures published { IfOk result (λ p. IsPublishedOn (record { policy = R.rules runner.now; digest = digest.now; good = E.good }) state.old.held (record { commands = p.commands; merges = p.merges; entries = p.entries.all; rows = F.rows p.facts })) }
     ensures typed { IfOk result (λ p. AreTyped (R.rules runner.now) (F.rows p.facts)) }
     ensures ticks { IfOk result (λ p. steps.new ≡ steps.old + length p.entries.all) }
     ensures later { E.faults env.old ≤ E.faults env.new }

@@ -2,7 +2,7 @@ use Rattle.std.proofs.Common.{◌++◌, rules, sym, subst}
 use Rattle.braid_run.specs.States.{IsStanding}
 use Rattle.transaction.specs.Applying.{graph_named}
 use Rattle.transaction.specs.working.Sealing.{basis_of}
-use Rattle.transaction.proofs.StandingFacts.{made_for}
+use Rattle.transaction.proofs.SoundFacts.{made_goes}
 use Rattle.transaction.proofs.Ticks.{made_ticks}
 use Rattle.transaction.proofs.preparing.prepare.Goals as goal
 
@@ -16,19 +16,19 @@ returns-clause-ticks g c =
 pub returns-clause-ready : goal.returns-clause-ready
 returns-clause-ready g c =
     let p = c.in_ok-prepared.prepared in
-    let has =
-    made_for (basis_of (g.R.Runner.rules c.args.runner.now) c.args.digest.now g.E.Envelope.good g.E.Envelope.tag_of c.args.author.now (g.G.Graph.commands c.graph.result.now)) c.args.state.now.held
-    c.graph.ensures.commands (g.F.FactBase.rows c.facts.result.now) (record { action = c.args.action.now; arguments = c.args.args.now; first = c.args.first })
+    let both =
+    made_goes (basis_of (g.R.Runner.rules c.args.runner.now) c.args.digest.now g.E.Envelope.good g.E.Envelope.tag_of c.args.author.now (g.G.Graph.commands c.graph.result.now)) c.args.state.now.held
+    c.graph.ensures.commands (g.F.FactBase.rows c.facts.result.now) c.facts.ensures (record { action = c.args.action.now; arguments = c.args.args.now; first = c.args.first })
     (record { commands = p.commands; merges = p.merges; entries = p.entries.all; rows = g.F.FactBase.rows p.facts }) c.args.steps.now c.act.new.steps c.in_ok-prepared.ensures.acts
-    c.graph.ensures.standing c.requires.first c.in_ok-prepared.ensures.formed in
-    record { fits = search rules; standing = subst (λ h. IsStanding (graph_named h.graph_id p.commands) (h.commands ++ p.commands)) (sym c.reserve.ensures.held) has.standing }
+    c.in_ok-prepared.ensures.well_typed c.graph.ensures.standing c.requires.first c.in_ok-prepared.ensures.formed in
+    record { fits = search rules; standing = subst (λ h. IsStanding (graph_named h.graph_id p.commands) (h.commands ++ p.commands)) (sym c.reserve.ensures.held) both.0 }
 
 pub returns-clause-published : goal.returns-clause-published
 returns-clause-published g c =
     let p = c.in_ok-prepared.prepared in
-    let has =
-    made_for (basis_of (g.R.Runner.rules c.args.runner.now) c.args.digest.now g.E.Envelope.good g.E.Envelope.tag_of c.args.author.now (g.G.Graph.commands c.graph.result.now)) c.args.state.now.held
-    c.graph.ensures.commands (g.F.FactBase.rows c.facts.result.now) (record { action = c.args.action.now; arguments = c.args.args.now; first = c.args.first })
+    let both =
+    made_goes (basis_of (g.R.Runner.rules c.args.runner.now) c.args.digest.now g.E.Envelope.good g.E.Envelope.tag_of c.args.author.now (g.G.Graph.commands c.graph.result.now)) c.args.state.now.held
+    c.graph.ensures.commands (g.F.FactBase.rows c.facts.result.now) c.facts.ensures (record { action = c.args.action.now; arguments = c.args.args.now; first = c.args.first })
     (record { commands = p.commands; merges = p.merges; entries = p.entries.all; rows = g.F.FactBase.rows p.facts }) c.args.steps.now c.act.new.steps c.in_ok-prepared.ensures.acts
-    c.graph.ensures.standing c.requires.first c.in_ok-prepared.ensures.formed in
-    has.published
+    c.in_ok-prepared.ensures.well_typed c.graph.ensures.standing c.requires.first c.in_ok-prepared.ensures.formed in
+    both.1
