@@ -1,10 +1,10 @@
 -- The command that a publish makes is the call that was brought, and the policy declares its kind.
-use Rattle.std.proofs.Common.{◌≡◌, ℕ, Bool, true, false, if◌then◌else◌, IsTrue, List, [], ◌∷◌, Option, Some, None, option_map, option_and_then, slice_get, refl, sym, ap, subst, ◌∙◌}
+use Rattle.std.proofs.Common.{◌≡◌, ℕ, Bool, if◌then◌else◌, IsTrue, List, [], Option, Some, None, option_map, option_and_then, refl, sym, ap, ◌∙◌}
 use Rattle.std.specs.Option.{is_some}
 use Rattle.base_bytes.specs.Payload.{spelling}
 use Rattle.base_bytes.specs.declared.value.Value.{Value}
 use Rattle.base_bytes.specs.declared.value.Value.TheVariants as value
-use Rattle.braid_run.specs.Soundness.{DoesPass, HasDigest, HasGoodTag, declared_kind, item_kind, kind_of}
+use Rattle.braid_run.specs.Soundness.{HasDigest, HasGoodTag, declared_kind, item_kind, kind_of}
 use Rattle.command.specs.Wire.{body, command_id}
 use Rattle.command.specs.declared.command.Command.{Command}
 use Rattle.command.proofs.ClosedFacts.{bytes_of_same}
@@ -12,10 +12,9 @@ use Rattle.fact_store.specs.declared.row.Row.{Row}
 use Rattle.policy_ast.specs.declared.item.Item.{Item}
 use Rattle.policy_ast.specs.declared.item.Item.TheVariants as item
 use Rattle.policy_ast.specs.declared.policy.PlacedItem.{PlacedItem}
-use Rattle.policy_meaning.specs.Applying.{Ended, Passes}
-use Rattle.policy_meaning.specs.Actions.{Brought}
+use Rattle.policy_meaning.specs.Applying.{Passes}
 use Rattle.policy_meaning.specs.Blocks.{policy_block, recall_block}
-use Rattle.policy_meaning.specs.Commands.{Content, Judged, Pass, call_by, call_judged, call_of, command_number, content_of, judged, judged_by}
+use Rattle.policy_meaning.specs.Commands.{Content, Pass, call_by, call_judged, call_of, command_number, content_of, judged, judged_by}
 use Rattle.policy_meaning.specs.Typed.{IsCommandOf}
 use Rattle.policy_meaning.specs.declared.call.Call.{Call}
 use Rattle.policy_meaning.specs.declared.effect.Effect.{Effect}
@@ -24,11 +23,11 @@ use Rattle.policy_meaning.proofs.DeclaredFacts.{named_at}
 use Rattle.policy_meaning.proofs.NumberFacts.{own_number}
 use Rattle.policy_meaning.proofs.PayloadFacts.{fields_read}
 use Rattle.policy_rules.specs.Commands.{CommandKind, Basic, Finalize, Init, command_kind}
-use Rattle.policy_rules.specs.Heads.{is_command, names_item}
+use Rattle.policy_rules.specs.Heads.{is_command}
 use Rattle.policy_rules.specs.Names.{Name, item_named, number_named}
 use Rattle.policy_rules.specs.WellTyped.{IsWellTyped, items_of}
 use Rattle.policy_rules.proofs.Reaching.{structs_are_finite}
-use Rattle.transaction.specs.Publishing.{call_with, declared_at, new_command, payload_of}
+use Rattle.transaction.specs.Publishing.{call_with, declared_at, new_command}
 use Rattle.transaction.proofs.CommandFacts.{Stands, declared_stands, stands, struct_typed}
 
 -- ---- a command of its parts

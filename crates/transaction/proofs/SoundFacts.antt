@@ -1,7 +1,7 @@
 -- What an action has made goes on from what is held, and a sound state stays sound.
-use Rattle.std.proofs.Common.{◌≡◌, ℕ, ◌⊎◌, inl, inr, Bool, true, false, not, IsTrue, List, [], ◌∷◌, ◌++◌, filter, length, take, Option, Some, None, Result, Ok, Err, refl, sym, ap, subst, ◌∙◌, append_assoc, append-nil}
-use Rattle.std.specs.List.{All, Contains}
-use Rattle.std.proofs.Math.Seq.{take-append_seam, take-length}
+use Rattle.std.proofs.Common.{◌≡◌, ℕ, inl, inr, true, false, not, IsTrue, List, [], ◌∷◌, ◌++◌, length, take, Option, Some, None, Ok, refl, sym, ap, subst, ◌∙◌, append_assoc, append-nil}
+use Rattle.std.specs.List.{All}
+use Rattle.std.proofs.Math.Seq.{take-length}
 use Rattle.std.proofs.lemmas.List.Elements.{Contains-append_right, Contains-push_cases, filter-append}
 use Rattle.braid_run.specs.Places.{AreAtPlace}
 use Rattle.braid_run.specs.Published.{ArePublished, continued_run, without_merges}
@@ -15,8 +15,8 @@ use Rattle.braid_run.specs.declared.entry.Outcome.TheVariants as outcome
 use Rattle.braid_run.proofs.PublishedFacts.{facts_behind_all, published_extends, runs_last}
 use Rattle.braid_run.proofs.RunFacts.{run_append}
 use Rattle.braid_run.proofs.SoundFacts.{lawful_on, sound_on}
-use Rattle.command.specs.Closed.{IsClosed, IsHeld, IsNext}
-use Rattle.command.specs.Kinds.{is_merge, parents_of}
+use Rattle.command.specs.Closed.{IsClosed, IsNext}
+use Rattle.command.specs.Kinds.{is_merge}
 use Rattle.command.specs.Wire.{IsFormed, body, command_id}
 use Rattle.command.specs.declared.command.Command.{Command}
 use Rattle.command.specs.declared.command.Command.TheVariants as command
@@ -28,7 +28,6 @@ use Rattle.policy_meaning.specs.Actions.{Brought}
 use Rattle.policy_meaning.specs.Commands.{Pass, judged}
 use Rattle.policy_meaning.specs.Desks.{Chain, Posting, brought}
 use Rattle.policy_meaning.specs.Typed.{IsCommandOf}
-use Rattle.policy_meaning.specs.declared.effect.Effect.{Effect}
 use Rattle.policy_meaning.specs.declared.ends.Posted.{Posted}
 use Rattle.policy_rules.specs.WellTyped.{IsWellTyped}
 use Rattle.transaction.specs.Acting.{Acts, Made, Request}
@@ -37,7 +36,6 @@ use Rattle.transaction.specs.Drafts.{Basis, Draft, first_draft}
 use Rattle.transaction.specs.Merging.{is_known, with_merge}
 use Rattle.transaction.specs.Publishing.{Publication, IsTooLong, Refuses, Takes, declared_at, opened, parent_of, payload_of, with_command}
 use Rattle.transaction.specs.Seals.{IsPublish, IsSealOf, Leaves}
-use Rattle.transaction.specs.declared.fault.ActFault.{ActFault}
 use Rattle.transaction.proofs.MadeCalls.{content_made, digest_made, kind_is_declared, passes_made, tag_made}
 use Rattle.transaction.proofs.Runs.{chain_keeps}
 use Rattle.transaction.proofs.StandingFacts.{Joins, Stands, all_left, begun, command_stands, first_room, first_stands, is_plain, merge_joins, named_standing, taken_behind}
@@ -235,8 +233,7 @@ made_goes basis held is rows same_rows request made before now acts typed standi
     let goes =
     chain_goes basis held.graph_id unnamed typed rows held.entries (subst (IsStanding held.graph_id) (sym is) standing) d.postings d.draft d.last d.chain d.none
     (subst (All IsFormed) (ap (λ m. m.commands) d.is) formed) in
-    subst (λ m. IsStanding (graph_named held.graph_id m.commands) (held.commands ++ m.commands) × IsPublishedOn (record { policy = basis.policy; digest = basis.digest; good = basis.good }) held m) (sym d.is)
-    (
+    subst (λ m. IsStanding (graph_named held.graph_id m.commands) (held.commands ++ m.commands) × IsPublishedOn (record { policy = basis.policy; digest = basis.digest; good = basis.good }) held m) (sym d.is) (
       subst (λ l. IsStanding (graph_named held.graph_id d.draft.commands) (l ++ d.draft.commands)) is goes.stands.standing,
       record {
         commands = subst (λ l. ArePublished l d.draft.commands) is goes.stands.published;

@@ -6,7 +6,7 @@ use Rattle.std.proofs.Math.Seq.{take-append_seam}
 use Rattle.std.proofs.lemmas.Bool.{ltb-false}
 use Rattle.std.proofs.lemmas.List.Elements.{All-contains, All-take, Contains-push}
 use Rattle.braid_run.specs.Published.{ArePublished, IsBehindAll}
-use Rattle.braid_run.specs.States.{HasOneInit, Held, IsStanding}
+use Rattle.braid_run.specs.States.{HasOneInit, IsStanding}
 use Rattle.braid_run.proofs.StandingFacts.{one_more}
 use Rattle.command.specs.Closed.{IsHeld, has_id, max_commands}
 use Rattle.command.specs.Kinds.{is_finalize, is_init, is_merge, parents_of}
@@ -17,22 +17,17 @@ use Rattle.command.proofs.ClosedFacts.{by_left, by_right, either}
 use Rattle.command.proofs.ListFacts.{at_head, behind_head, head_cases, none_element, one_element}
 use Rattle.fact_store.specs.declared.row.Row.{Row}
 use Rattle.policy_meaning.specs.Actions.{Brought}
-use Rattle.policy_meaning.specs.Desks.{Posting, brought}
-use Rattle.policy_meaning.specs.declared.ends.Posted.{Posted}
 use Rattle.policy_rules.specs.Commands.{CommandKind, Basic, Finalize, Init}
 use Rattle.policy_rules.specs.Names.{Name}
-use Rattle.transaction.specs.Acting.{Acts, Made, Request, Start, is_none}
+use Rattle.transaction.specs.Acting.{Start, is_none}
 use Rattle.transaction.specs.Applying.{graph_named}
 use Rattle.transaction.specs.Drafts.{Basis, Draft, first_draft, with_id}
 use Rattle.transaction.specs.Merging.{is_known, merge_two, merges, with_merge}
 use Rattle.transaction.specs.Publishing.{added_commands, declared_at, has_head, is_full, is_misplaced, new_command, parent_of, payload_of, with_command}
-use Rattle.transaction.specs.Seals.{IsPublish, Leaves}
 use Rattle.transaction.specs.declared.fault.ActFault.{ActFault}
 use Rattle.transaction.specs.declared.fault.ActFault.TheVariants as fault
 use Rattle.transaction.proofs.HeadFacts.{HasHeads, first_heads, heads_behind, heads_merged, none_held}
-use Rattle.transaction.proofs.Runs.{chain_keeps}
-use Rattle.transaction.proofs.Tells.{IfTakes, IsTaken, longer_by_one, merges_keep, opening_tells, placed_still, tells, the_command}
-use Rattle.transaction.proofs.Ticks.{done, opening_keeps}
+use Rattle.transaction.proofs.Tells.{IsTaken, longer_by_one, merges_keep, opening_tells, placed_still, the_command}
 
 -- ---- the graph's id
 
