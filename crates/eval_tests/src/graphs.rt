@@ -42,7 +42,7 @@ fn push_field(alloc: Global, into: &mut Bytes, field: Field) -> Result<(), NoMem
     match field {
         Field::Int(number) => into.extend(alloc, &number.to_be_bytes()),
         Field::Str(text) => {
-            into.extend(alloc, &(text.len() as u32).to_be_bytes())?;
+            into.extend(alloc, &u32::try_from(text.len()).unwrap_or(0).to_be_bytes())?;
             into.extend(alloc, text.as_bytes())
         }
         Field::Ident(byte) => into.extend(alloc, &[byte; 32]),
@@ -63,7 +63,7 @@ fn payload(alloc: Global, fields: &[Field]) -> Result<Bytes, NoMemory> {
 fn id_for(graph: &ListGraph, place: usize) -> Id {
     match id_at(graph, place) {
         Some(id) => id,
-        None => Id::new([place as u8; 32]),
+        None => Id::new([u8::try_from(place).unwrap_or(0); 32]),
     }
 }
 
@@ -80,9 +80,12 @@ fn push_content(alloc: Global, into: &mut Bytes, step: &Step) -> Result<(), NoMe
     let Step(_, author, name, fields) = step;
     let payload = payload(alloc, fields)?;
     into.extend(alloc, &[*author; 32])?;
-    into.extend(alloc, &(name.len() as u16).to_be_bytes())?;
+    into.extend(alloc, &u16::try_from(name.len()).unwrap_or(0).to_be_bytes())?;
     into.extend(alloc, name.as_bytes())?;
-    into.extend(alloc, &(payload.len() as u32).to_be_bytes())?;
+    into.extend(
+        alloc,
+        &u32::try_from(payload.len()).unwrap_or(0).to_be_bytes(),
+    )?;
     into.extend(alloc, payload.as_slice())
 }
 
