@@ -1,17 +1,21 @@
 -- Actions: what is counted of one, and that a replica stays one behind it.
-use Rattle.std.proofs.Common.{◌≡◌, ℕ, ◌+◌, ◌-◌, Bool, true, IsTrue, List, [], ◌∷◌, ◌++◌, Option, Some, None, IfSome, Result, Ok, Err, length, map, refl, sym, ap, ◌∙◌, arith, length-append}
+use Rattle.std.proofs.Common.{◌≡◌, ℕ, ◌+◌, ◌-◌, slice_index_or, Bool, true, IsTrue, List, [], ◌∷◌, ◌++◌, Option, Some, None, IfSome, Result, Ok, Err, length, map, refl, sym, ap, subst, ◌∙◌, arith, length-append}
+use Rattle.std.specs.List.{All}
+use Rattle.std.proofs.lemmas.List.Elements.{All-contains_itself, Contains-append_right}
 use Rattle.braid_run.specs.RunOf.{IsRunOf}
 use Rattle.braid_run.specs.Runs.{run_of}
-use Rattle.braid_run.specs.Soundness.{Criteria, IsSound}
 use Rattle.braid_run.specs.States.{Held, IsStanding}
 use Rattle.braid_run.specs.declared.entry.Entry.{Entry}
-use Rattle.command.specs.Wire.{body, command_id}
+use Rattle.command.specs.Closed.{IsClosed, IsNext}
+use Rattle.command.specs.Wire.{IsFormed, body, command_id}
 use Rattle.command.specs.declared.command.Command.{Command}
+use Rattle.command.proofs.ListFacts.{each_cut, split_at}
 use Rattle.fact_store.specs.declared.row.Row.{Row}
 use Rattle.policy_ast.specs.declared.policy.PlacedItem.{PlacedItem}
 use Rattle.policy_meaning.specs.Actions.{Brought}
 use Rattle.policy_meaning.specs.Desks.{ActionRun, Chain, Posting, brought}
 use Rattle.policy_meaning.specs.Typed.{AreTyped}
+use Rattle.policy_rules.specs.WellTyped.{IsWellTyped}
 use Rattle.replica.proofs.FrontFacts.{batch_of, front_shared}
 use Rattle.replica.specs.Actions.{IsCounted}
 use Rattle.replica.specs.Kept.{IsReplica, any_tag}
@@ -23,6 +27,7 @@ use Rattle.transaction.specs.Drafts.{Basis, Draft, first_draft}
 use Rattle.transaction.specs.Publishing.{command_of, declared_at, opened}
 use Rattle.transaction.specs.Seals.{IsPublish, IsSeal, IsSealOf}
 use Rattle.transaction.specs.declared.fault.ActFault.{ActFault}
+use Rattle.transaction.proofs.SoundFacts.{applied_sound, made_goes}
 
 -- what stands on a test of tags stands on every tag too
 abbrev pub with_any_tag : Basis → Basis
@@ -67,25 +72,25 @@ module _ (basis : Basis) where
   pub any_acts : (rows : List Row) (request : Request) (result : Result Made ActFault) (before now : ℕ) → Acts basis rows request result before now → Acts (with_any_tag basis) rows request result before now
   any_acts rows request result before now is = any_from (started basis request) rows result before now is
 
--- that an action keeps what is held sound is a law of actions
-abbrev pub ActsKeepSound : Type 0
-ActsKeepSound =
-    (criteria : Criteria) (told : Option (List ℕ → List ℕ → List ℕ)) (author : List ℕ) (held : Held) (request : Request) (made : Made) (before now : ℕ) → IsSound criteria held →
-        IsStanding (graph_named held.graph_id made.commands) (held.commands ++ made.commands) →
-        Acts (record { policy = criteria.policy; digest = criteria.digest; good = criteria.good; told = told; author = author; held = held.commands }) held.rows request (Ok made) before now → IsSound criteria (applied held made)
+-- what stands in a closed list has its form
+all_formed : (held made : List Command) → IsClosed (held ++ made) → All IsFormed made
+all_formed held made closed k d inside =
+    let c = slice_index_or made k d in
+    let at = split_at (held ++ made) c (Contains-append_right held made c (All-contains_itself made k d inside)) in
+    (each_cut IsNext at.0 c at.1 (subst IsClosed at.2 closed)).formed
 
-pub acts_keep : ActsKeepSound
-acts_keep criteria told author held request made before now is standing acts = ?
-
-pub replica_acted : ActsKeepSound → (policy : List PlacedItem) (digest : List ℕ) (good : List ℕ → List ℕ → List ℕ → Bool) (told : Option (List ℕ → List ℕ → List ℕ)) (author : List ℕ) (held : Held) (request : Request) (made : Made)
-    (before now : ℕ) → IsReplica policy digest held → IsStanding (graph_named held.graph_id made.commands) (held.commands ++ made.commands) → AreTyped policy made.rows →
-    Acts (record { policy = policy; digest = digest; good = good; told = told; author = author; held = held.commands }) held.rows request (Ok made) before now → IsReplica policy digest (applied held made)
-replica_acted keeps policy digest good told author held request made before now is standing typed acts = record {
-  typed = typed;
-  sound =
-      keeps (record { policy = policy; digest = digest; good = any_tag }) None author held request made before now is.sound standing
-      (any_acts (record { policy = policy; digest = digest; good = good; told = told; author = author; held = held.commands }) held.rows request (Ok made) before now acts);
-}
+pub replica_acted : (policy : List PlacedItem) (digest : List ℕ) (good : List ℕ → List ℕ → List ℕ → Bool) (told : Option (List ℕ → List ℕ → List ℕ)) (author : List ℕ) (held : Held) (request : Request) (made : Made)
+    (before now : ℕ) → IsWellTyped policy → (request.first ≡ true → held.graph_id ≡ None) → IsReplica policy digest held → IsStanding (graph_named held.graph_id made.commands) (held.commands ++ made.commands) →
+    AreTyped policy made.rows → Acts (record { policy = policy; digest = digest; good = good; told = told; author = author; held = held.commands }) held.rows request (Ok made) before now →
+    IsReplica policy digest (applied held made)
+replica_acted policy digest good told author held request made before now well first is standing typed acts =
+    let basis : Basis = record { policy = policy; digest = digest; good = any_tag; told = None; author = author; held = held.commands } in
+    let any = any_acts (record { policy = policy; digest = digest; good = good; told = told; author = author; held = held.commands }) held.rows request (Ok made) before now acts in
+    let goes = made_goes basis held refl held.rows refl request made before now any well is.sound.commands.standing first (all_formed held.commands made.commands standing.closed) in
+    record {
+      typed = typed;
+      sound = applied_sound (record { policy = policy; digest = digest; good = any_tag }) held made standing is.sound goes.1;
+    }
 
 -- what is counted: the entries before are all shared, and those of the action follow
 pub counted_of : (policy : List PlacedItem) (digest : List ℕ) (held : Held) (made : Made) → ((xs : List Command) → map (λ e. e.id) (run_of policy xs).entries ≡ map command_id xs) → IsReplica policy digest held →

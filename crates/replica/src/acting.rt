@@ -69,6 +69,7 @@ pub fn act_on<R: Runner, G: Graph, F: FactBase, E: Envelope, L: Ledger>(
     ensures cause { IfErr result (λ why. why ≡ refusal.Act act_fault.SealFault → Rose (E.faults env.old) (E.faults env.new)) }
 {
     lists_have_one_run();
+    runner.policy();
     match prepare(
         alloc, runner, digest, state, author, action, args, first, env, steps,
     ) {

@@ -142,7 +142,8 @@ impl<R: Runner, G: Graph, F: FactBase, D: Disk> Replica<R, G, F, D> {
         ensures later { E.faults env.old ≤ E.faults env.new }
         ensures cause { IfErr result (λ why. why ≡ refusal.Act act_fault.SealFault → Rose (E.faults env.old) (E.faults env.new)) }
     {
-        if self.state.graph_id().is_some() {
+        let known = self.state.graph_id().is_some();
+        if known {
             return Err(Refusal::HasGraph);
         }
         self.run_action(alloc, action, args, true, env, steps)
