@@ -1,11 +1,9 @@
 -- Actions: what is counted of one, and that a replica stays one behind it.
-use Rattle.std.proofs.Common.{◌≡◌, ℕ, ◌+◌, ◌-◌, slice_index_or, Bool, true, IsTrue, List, [], ◌∷◌, ◌++◌, Option, Some, None, IfSome, Result, Ok, Err, length, map, refl, sym, ap, subst, ◌∙◌, arith, length-append}
+use Rattle.std.proofs.Common.{◌≡◌, ℕ, slice_index_or, Bool, true, List, [], ◌∷◌, ◌++◌, Option, Some, None, Result, Ok, Err, length, map, refl, sym, ap, subst, ◌∙◌, arith, length-append}
 use Rattle.std.specs.List.{All}
 use Rattle.std.proofs.lemmas.List.Elements.{All-contains_itself, Contains-append_right}
-use Rattle.braid_run.specs.RunOf.{IsRunOf}
 use Rattle.braid_run.specs.Runs.{run_of}
 use Rattle.braid_run.specs.States.{Held, IsStanding}
-use Rattle.braid_run.specs.declared.entry.Entry.{Entry}
 use Rattle.command.specs.Closed.{IsClosed, IsNext}
 use Rattle.command.specs.Wire.{IsFormed, body, command_id}
 use Rattle.command.specs.declared.command.Command.{Command}
@@ -13,13 +11,12 @@ use Rattle.command.proofs.ListFacts.{each_cut, split_at}
 use Rattle.fact_store.specs.declared.row.Row.{Row}
 use Rattle.policy_ast.specs.declared.policy.PlacedItem.{PlacedItem}
 use Rattle.policy_meaning.specs.Actions.{Brought}
-use Rattle.policy_meaning.specs.Desks.{ActionRun, Chain, Posting, brought}
+use Rattle.policy_meaning.specs.Desks.{Chain, Posting, brought}
 use Rattle.policy_meaning.specs.Typed.{AreTyped}
 use Rattle.policy_rules.specs.WellTyped.{IsWellTyped}
 use Rattle.replica.proofs.FrontFacts.{batch_of, front_shared}
 use Rattle.replica.specs.Actions.{IsCounted}
 use Rattle.replica.specs.Kept.{IsReplica, any_tag}
-use Rattle.replica.specs.Takes.{HasBatch}
 use Rattle.replica.specs.declared.counts.Published.{Published}
 use Rattle.transaction.specs.Acting.{Acts, ActsFrom, Made, Request, Start, started}
 use Rattle.transaction.specs.Applying.{applied, graph_named}
@@ -31,7 +28,7 @@ use Rattle.transaction.proofs.SoundFacts.{applied_sound, made_goes}
 
 -- what stands on a test of tags stands on every tag too
 abbrev pub with_any_tag : Basis → Basis
-with_any_tag basis = record { policy = basis.policy; digest = basis.digest; good = any_tag; told = None; author = basis.author; held = basis.held; }
+with_any_tag basis = record { policy = basis.policy; digest = basis.digest; good = any_tag; told = None; author = basis.author; held = basis.held }
 
 module _ (basis : Basis) where
   any_seal : (sealed : List ℕ) (tag : Option (List ℕ)) → IsSeal basis sealed tag → IsSeal (with_any_tag basis) sealed tag

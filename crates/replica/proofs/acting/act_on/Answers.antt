@@ -1,4 +1,4 @@
-use Rattle.std.proofs.Common.{◌≡◌, ◌++◌, length, sym, ap, subst, ◌∙◌, rules}
+use Rattle.std.proofs.Common.{◌++◌, length, sym, ap, subst, ◌∙◌}
 use Rattle.braid_run.specs.States.{IsStanding}
 use Rattle.transaction.specs.Acting.{Made}
 use Rattle.transaction.specs.Applying.{applied, graph_named}
@@ -16,8 +16,8 @@ returns-in-Ok-clause-done g c =
     let same = c.in-Ok.ensures.held in
     let standing : IsStanding (graph_named old.graph_id made.commands) (old.commands ++ made.commands) = subst (λ h. IsStanding (graph_named h.graph_id made.commands) (h.commands ++ made.commands)) same c.in-Ok.ensures.ready.standing in
     let is : IsReplica policy digest (applied old made) =
-        replica_acted policy digest g.E.Envelope.good g.E.Envelope.tag_of c.args.author.now old (record { action = c.args.action.now; arguments = c.args.args.now; first = c.args.first }) made c.args.steps.now
-        c.prepare.new.steps c.policy.ensures.well_typed c.requires.first c.requires.replica standing c.in-Ok.ensures.typed c.in-Ok.ensures.acts in
+    replica_acted policy digest g.E.Envelope.good g.E.Envelope.tag_of c.args.author.now old (record { action = c.args.action.now; arguments = c.args.args.now; first = c.args.first }) made c.args.steps.now
+    c.prepare.new.steps c.policy.ensures.well_typed c.requires.first c.requires.replica standing c.in-Ok.ensures.typed c.in-Ok.ensures.acts in
     let new = c.apply.ensures.held ∙ ap (λ h. applied h made) same in
     record {
       made = made;
