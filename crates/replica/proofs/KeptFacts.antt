@@ -1,5 +1,5 @@
 -- What is true of every replica stays true of it.
-use Rattle.std.proofs.Common.{◌≡◌, ℕ, Bool, true, if◌then◌else◌, List, [], ◌∷◌, ◌++◌, Option, Some, None, refl, sym, ap, subst, ◌∙◌, append_assoc, append-nil}
+use Rattle.std.proofs.Common.{◌≡◌, ℕ, Bool, true, if◌then◌else◌, List, [], ◌∷◌, ◌++◌, Option, Some, None, refl, sym, ap, subst, append_assoc, append-nil}
 use Rattle.std.specs.List.{All, Contains}
 use Rattle.accept.specs.Admission.{IsAdmission, bad_envelope, by_held, by_reason, first_of, has_good_tag, held_with, ill_formed, late_reasons, missing_parent, other_init}
 use Rattle.accept.specs.Takes.{IsTake, IsTakenOn, Tally, counted, no_tally}

@@ -2,3 +2,4 @@
 pub mod FrontFacts
 pub mod TakeFacts
 pub mod KeptFacts
+pub mod ActFacts

@@ -1,5 +1,5 @@
 -- What a replica keeps, as contracts see it.
-use Rattle.std.specs.Prelude.{ℕ, Bool, true, List, [], Option, Some, None}
+use Rattle.std.specs.Prelude.{ℕ, Bool, true, List, [], Some, None}
 use Rattle.braid_run.specs.Soundness.{Criteria, IsSound}
 use Rattle.braid_run.specs.States.{Held}
 use Rattle.policy_ast.specs.declared.policy.PlacedItem.{PlacedItem}

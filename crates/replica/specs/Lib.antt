@@ -3,5 +3,6 @@ pub mod Kept
 pub mod Steps
 pub mod Messages
 pub mod Takes
+pub mod Actions
 pub mod Calls
 pub mod working

@@ -1,6 +1,7 @@
 //! A replica of a graph under a policy: each call is one step.
 #![tactic(auto)]
 
+mod acting;
 mod counts;
 mod front;
 mod messages;

@@ -1,18 +1,22 @@
-ghost use Rattle.std.specs.Prelude.{◌≡◌, None, Err, Ok, length, option_map, IfErr, IfOk};
+ghost use Rattle.std.specs.Prelude.{◌≡◌, ◌+◌, ◌≤◌, true, false, None, Err, Ok, length, option_map, IfErr, IfOk};
 ghost use Rattle.journal.specs.declared.fault.OpenFault.TheVariants as open_fault;
+ghost use Rattle.outside.specs.Causes.{Rose};
 ghost use Rattle.outside.specs.Envelope.{author_id};
-ghost use Rattle.replica.specs.Calls.{Answers, Asks, AsksNext, Joins, TakesIn, TakesTwice};
+ghost use Rattle.replica.specs.Calls.{ActsIn, Answers, Asks, AsksNext, Begins, Joins, TakesIn, TakesTwice};
 ghost use Rattle.replica.specs.Kept.{IsReplica, begun, criteria_of};
 ghost use Rattle.replica.specs.Messages.{IsResponseRead};
 ghost use Rattle.replica.specs.Steps.{IsReply};
+ghost use Rattle.replica.specs.declared.refusal.Refusal.TheVariants as refusal;
 ghost use Rattle.replica.specs.working.Changes.{IsReady};
 ghost use Rattle.sync_codec.specs.declared.response.Response.{Response as TheResponse};
+ghost use Rattle.transaction.specs.declared.fault.ActFault.TheVariants as act_fault;
 
-use crate::counts::Taken;
+use crate::acting::act_on;
+use crate::counts::{Published, Taken};
 use crate::messages::{request_for, response_for};
 use crate::refusal::Refusal;
 use crate::taking::{Ready, adopt, prepare_take};
-use base_bytes::{Bytes, Id, NoMemory, Steps, Text};
+use base_bytes::{Arg, Bytes, Id, NoMemory, Steps, Text};
 use braid_run::State;
 use command::Graph;
 use fact_store::FactBase;
@@ -91,6 +95,75 @@ impl<R: Runner, G: Graph, F: FactBase, D: Disk> Replica<R, G, F, D> {
         }
         self.state.name_graph(*graph);
         Ok(())
+    }
+
+    /// Runs an action, and adds all that it publishes or nothing.
+    fn run_action<E: Envelope, L: Ledger>(
+        &mut self,
+        alloc: Global,
+        action: &Text,
+        args: &[Arg],
+        first: bool,
+        env: &mut E,
+        steps: &mut Steps<L>,
+    ) -> Result<Published, Refusal>
+        requires first { first ≡ true → self.old.held.graph_id ≡ None }
+        ensures step { ActsIn self.old E.good E.tag_of (record { action = action.now; arguments = args.now; first = first }) steps.old steps.new result self.new }
+        ensures ticks { IfOk result (λ counts. steps.new ≡ steps.old + counts.commands) }
+        ensures later { E.faults env.old ≤ E.faults env.new }
+        ensures cause { IfErr result (λ why. why ≡ refusal.Act act_fault.SealFault → Rose (E.faults env.old) (E.faults env.new)) }
+    {
+        let counts = act_on(
+            alloc,
+            &self.runner,
+            &self.digest,
+            &mut self.state,
+            &self.author,
+            action,
+            args,
+            first,
+            env,
+            steps,
+        )?;
+        Ok(counts)
+    }
+
+    /// The first action of a graph, which its first command names; where the replica has no graph id yet. All that it publishes is added, or nothing.
+    pub fn init<E: Envelope, L: Ledger>(
+        &mut self,
+        alloc: Global,
+        action: &Text,
+        args: &[Arg],
+        env: &mut E,
+        steps: &mut Steps<L>,
+    ) -> Result<Published, Refusal>
+        ensures step { Begins self.old E.good E.tag_of (record { action = action.now; arguments = args.now; first = true }) steps.old steps.new result self.new }
+        ensures ticks { IfOk result (λ counts. steps.new ≡ steps.old + counts.commands) }
+        ensures later { E.faults env.old ≤ E.faults env.new }
+        ensures cause { IfErr result (λ why. why ≡ refusal.Act act_fault.SealFault → Rose (E.faults env.old) (E.faults env.new)) }
+    {
+        let known = self.state.graph_id().is_some();
+        if known {
+            return Err(Refusal::HasGraph);
+        }
+        self.run_action(alloc, action, args, true, env, steps)
+    }
+
+    /// An action. All that it publishes is added, or nothing.
+    pub fn act<E: Envelope, L: Ledger>(
+        &mut self,
+        alloc: Global,
+        action: &Text,
+        args: &[Arg],
+        env: &mut E,
+        steps: &mut Steps<L>,
+    ) -> Result<Published, Refusal>
+        ensures step { ActsIn self.old E.good E.tag_of (record { action = action.now; arguments = args.now; first = false }) steps.old steps.new result self.new }
+        ensures ticks { IfOk result (λ counts. steps.new ≡ steps.old + counts.commands) }
+        ensures later { E.faults env.old ≤ E.faults env.new }
+        ensures cause { IfErr result (λ why. why ≡ refusal.Act act_fault.SealFault → Rose (E.faults env.old) (E.faults env.new)) }
+    {
+        self.run_action(alloc, action, args, false, env, steps)
     }
 
     /// The bytes of the first request of a session.

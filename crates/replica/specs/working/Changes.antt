@@ -1,5 +1,5 @@
 -- What a take comes to before anything is changed, and what is held once it is adopted.
-use Rattle.std.specs.Prelude.{◌≡◌, ℕ, ◌-◌, Bool, List, ◌++◌, length, Option, Some, None}
+use Rattle.std.specs.Prelude.{◌≡◌, ℕ, ◌-◌, Bool, List, ◌++◌, length, Option, Some, None, Ok}
 use Rattle.std.specs.List.{common_prefix_len}
 use Rattle.std.specs.Str.{bytes_eq}
 use Rattle.accept.specs.Admission.{IsAdmission}
@@ -13,10 +13,19 @@ use Rattle.command.specs.declared.command.Command.{Command}
 use Rattle.fact_store.specs.declared.row.Row.{Row}
 use Rattle.policy_ast.specs.declared.policy.PlacedItem.{PlacedItem}
 use Rattle.policy_meaning.specs.Typed.{AreTyped}
+use Rattle.replica.specs.Actions.{IsCounted}
 use Rattle.replica.specs.Kept.{IsReplica}
 use Rattle.replica.specs.Takes.{Takes}
+use Rattle.replica.specs.declared.counts.Published.{Published}
 use Rattle.replica.specs.declared.counts.Taken.{Taken}
+use Rattle.replica.specs.declared.refusal.Refusal.{Refusal}
+use Rattle.replica.specs.declared.refusal.Refusal.TheVariants as refusal
 use Rattle.sync_codec.specs.declared.response.Response.{Response}
+use Rattle.transaction.specs.Acting.{Acts, Made, Request as Action}
+use Rattle.transaction.specs.Applying.{applied}
+use Rattle.transaction.specs.Drafts.{Basis}
+use Rattle.transaction.specs.declared.fault.ActFault.{ActFault}
+use Rattle.transaction.specs.declared.fault.ActFault.TheVariants as act_fault
 
 -- Two entries are of one command.
 abbrev pub same_entry : Entry → Entry → Bool
@@ -56,3 +65,16 @@ pub record Reruns (policy : List PlacedItem) (below added : List Command) (olds 
   pub typed : AreTyped policy change.rows
   pub shared : cut ≡ common_prefix_len same_entry olds change.entries
   pub left : entries ≡ length change.entries - cut
+
+-- The refusal of an action, by its fault. That memory lacks is a refusal of its own.
+abbrev pub refused_by : ActFault → Refusal
+refused_by act_fault.NoMemory = refusal.NoMemory
+refused_by other = refusal.Act other
+
+-- An action was done on what a replica holds, which is then still a replica's.
+pub record IsDone (policy : List PlacedItem) (digest : List ℕ) (basis : Basis) (old : Held) (action : Action) (before now : ℕ) (counts : Published) (new : Held) : Type 0 where
+  pub made : Made
+  pub acts : Acts basis old.rows action (Ok made) before now
+  pub counted : IsCounted policy old.commands made counts
+  pub same_held : new ≡ applied old made
+  pub replica : IsReplica policy digest new

@@ -1,8 +1,7 @@
 use Rattle.std.proofs.Common.{◌++◌, sym, subst}
 use Rattle.accept.specs.Admission.{IsAdmission}
-use Rattle.accept.specs.declared.answer.Admit.TheVariants.{Added}
 use Rattle.braid_run.specs.Soundness.{Criteria}
-use Rattle.braid_run.specs.States.{IsStanding, MayFollow}
+use Rattle.braid_run.specs.States.{IsStanding}
 use Rattle.replica.proofs.TakeFacts.{still_standing}
 use Rattle.replica.proofs.taking.admit_one.Goals as goal
 

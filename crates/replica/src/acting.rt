@@ -1,0 +1,83 @@
+ghost use Rattle.std.specs.Prelude.{◌≡◌, ◌+◌, ◌≤◌, ◌⊎◌, true, None, length, IfErr, IfOk};
+ghost use Rattle.outside.specs.Causes.{Rose};
+ghost use Rattle.replica.specs.Actions.{IsFault};
+ghost use Rattle.replica.specs.Kept.{IsReplica};
+ghost use Rattle.replica.specs.declared.refusal.Refusal.TheVariants as refusal;
+ghost use Rattle.replica.specs.working.Changes.{IsDone, refused_by};
+ghost use Rattle.transaction.specs.declared.fault.ActFault.TheVariants as act_fault;
+
+use crate::counts::Published;
+use crate::refusal::Refusal;
+use base_bytes::{Arg, Id, Steps, Text};
+use braid_run::State;
+use braid_run::laws::lists_have_one_run;
+use command::Graph;
+use fact_store::FactBase;
+use outside::Envelope;
+use policy_meaning::Runner;
+use std::alloc::Global;
+use std::sync::ledger::Ledger;
+use transaction::{ActFault, Prepared, apply, prepare};
+
+/// The refusal of an action, by its fault.
+fn refused(fault: ActFault) -> Refusal
+    ensures { result ≡ refused_by fault }
+{
+    match fault {
+        ActFault::NoMemory => Refusal::NoMemory,
+        other => Refusal::Act(other),
+    }
+}
+
+/// What an action published, behind so many entries.
+fn published<F: FactBase>(entries: usize, prepared: &Prepared<F>) -> Published
+    ensures { result ≡ record { commands = length prepared.now.entries.all; merges = prepared.now.merges; cut = entries; entries = length prepared.now.entries.all } }
+{
+    let count = prepared.entries.len();
+    Published {
+        commands: count,
+        merges: prepared.merges,
+        cut: entries,
+        entries: count,
+    }
+}
+
+/// Runs an action on the state of a replica, and adds all that it publishes or nothing.
+pub fn act_on<R: Runner, G: Graph, F: FactBase, E: Envelope, L: Ledger>(
+    alloc: Global,
+    runner: &R,
+    digest: &Id,
+    state: &mut State<G, F>,
+    author: &Id,
+    action: &Text,
+    args: &[Arg],
+    first: bool,
+    env: &mut E,
+    steps: &mut Steps<L>,
+) -> Result<Published, Refusal>
+    requires replica { IsReplica (R.rules runner.now) digest.now state.old.held }
+    requires first { first ≡ true → state.old.held.graph_id ≡ None }
+    ensures done { IfOk result (λ counts. IsDone (R.rules runner.now) digest.now
+        (record { policy = R.rules runner.now; digest = digest.now; good = E.good; told = E.tag_of; author = author.now; held = state.old.held.commands })
+        state.old.held (record { action = action.now; arguments = args.now; first = first }) steps.old steps.new counts state.new.held) }
+    ensures refused { IfErr result (λ why. (why ≡ refusal.NoMemory) ⊎ IsFault
+        (record { policy = R.rules runner.now; digest = digest.now; good = E.good; told = E.tag_of; author = author.now; held = state.old.held.commands })
+        state.old.held.rows (record { action = action.now; arguments = args.now; first = first }) steps.old steps.new why) }
+    ensures same { IfErr result (λ why. state.new.held ≡ state.old.held) }
+    ensures ticks { IfOk result (λ counts. steps.new ≡ steps.old + counts.commands) }
+    ensures later { E.faults env.old ≤ E.faults env.new }
+    ensures cause { IfErr result (λ why. why ≡ refusal.Act act_fault.SealFault → Rose (E.faults env.old) (E.faults env.new)) }
+{
+    lists_have_one_run();
+    runner.policy();
+    match prepare(
+        alloc, runner, digest, state, author, action, args, first, env, steps,
+    ) {
+        Ok(prepared) => {
+            let counts = published(state.entries().len(), &prepared);
+            apply(state, prepared);
+            Ok(counts)
+        }
+        Err(fault) => Err(refused(fault)),
+    }
+}
