@@ -1,5 +1,7 @@
 // Graphs of two documents, run in the order of their braids: the facts, the effects, and what each command comes to.
-ghost use Rattle.std.specs.Prelude.{◌≡◌, ◌<◌};
+ghost use Rattle.std.specs.Prelude.{◌≡◌, ◌<◌, IfOk};
+ghost use Rattle.fact_store.specs.working.Stored.{rows_of};
+ghost use Rattle.policy_meaning.specs.Typed.{AreTyped};
 
 use crate::graphs::Field::{Ident, Int, Str, Variant};
 use crate::graphs::Kind::{Basic, Init};
@@ -117,6 +119,7 @@ fn ran<L: Ledger>(
     requires name { blank.name ≡ L.name }
     requires parts { blank.parts ≡ L.parts }
     requires some { 0 < L.parts }
+    ensures typed { IfOk result (λ ran. AreTyped runner.now (rows_of ran.facts.stored.entries)) }
 {
     let mut steps = Steps::<L>::start(blank);
     let heads = graph.heads(alloc)?;
