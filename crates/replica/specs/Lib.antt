@@ -6,4 +6,5 @@ pub mod Takes
 pub mod Actions
 pub mod Calls
 pub mod Sessions
+pub mod Exchanges
 pub mod working
