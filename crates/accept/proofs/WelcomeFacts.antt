@@ -5,6 +5,7 @@ use Rattle.std.specs.Option.{is_some}
 use Rattle.std.specs.Str.{bytes_eq}
 use Rattle.std.proofs.lemmas.Bool.{eq-eqb, leb-true}
 use Rattle.std.proofs.lemmas.List.Elements.{All-contains}
+use Rattle.std.proofs.lemmas.Option.{same_Some}
 use Rattle.accept.specs.Admission.{IsAdmission, IsFirstBeside, IsFirstFinalizeWithout, answer_by, bad_envelope, by_held, by_reason, first_of, form_by, form_of, full, held_with, ill_formed, is_graph_id, is_of_kind, late_reasons, met, missing_parent, not_allowed, not_passed, other_init, parallel_finalize, reason_by}
 use Rattle.accept.specs.Laws.{IsHindered, IsWelcome}
 use Rattle.accept.specs.declared.answer.Admit.{Admit}
@@ -85,10 +86,10 @@ call_is_allowed policy rows None pass = refl
 call_is_allowed policy rows (Some call) pass = block_passes (policy_block policy call rows) (recall_block policy call rows) pass
 
 of_kind_kind : (c : Command) (kind : CommandKind) → kind_of c ≡ Some kind → is_of_kind kind c ≡ true
-of_kind_kind (command.Init digest author name payload tag) kind is = let same : Init ≡ kind = cc in subst (λ k. is_of_kind k (command.Init digest author name payload tag) ≡ true) same refl
+of_kind_kind (command.Init digest author name payload tag) kind is = let same : Init ≡ kind = same_Some Init kind is in subst (λ k. is_of_kind k (command.Init digest author name payload tag) ≡ true) same refl
 of_kind_kind (command.Basic priority parent author name payload tag) kind is =
-    let same : Basic priority ≡ kind = cc in subst (λ k. is_of_kind k (command.Basic priority parent author name payload tag) ≡ true) same (eq-eqb priority priority refl)
-of_kind_kind (command.Finalize parent author name payload tag) kind is = let same : Finalize ≡ kind = cc in subst (λ k. is_of_kind k (command.Finalize parent author name payload tag) ≡ true) same refl
+    let same : Basic priority ≡ kind = same_Some (Basic priority) kind is in subst (λ k. is_of_kind k (command.Basic priority parent author name payload tag) ≡ true) same (eq-eqb priority priority refl)
+of_kind_kind (command.Finalize parent author name payload tag) kind is = let same : Finalize ≡ kind = same_Some Finalize kind is in subst (λ k. is_of_kind k (command.Finalize parent author name payload tag) ≡ true) same refl
 of_kind_kind (command.Merge left right) kind is = absurd cc
 
 form_is_none : (declared : Option CommandKind) (c : Command) (kind : CommandKind) (called : Option Call) → declared ≡ Some kind → is_of_kind kind c ≡ true → is_some called ≡ true
@@ -110,9 +111,9 @@ well_formed_by policy (command.Merge left right) kind is declared calls = absurd
 
 no_ill_form : (policy : List PlacedItem) (c : Command) → (is_merge c ≡ false → option_and_then (λ content. declared_kind policy content.name) (content_of c) ≡ kind_of c)
     → (is_merge c ≡ false → is_some (call_of policy c) ≡ true) → ill_formed policy c ≡ None
-no_ill_form policy (command.Init digest author name payload tag) declared calls = well_formed_by policy _ Init refl (declared refl) (calls refl)
-no_ill_form policy (command.Basic priority parent author name payload tag) declared calls = well_formed_by policy _ (Basic priority) refl (declared refl) (calls refl)
-no_ill_form policy (command.Finalize parent author name payload tag) declared calls = well_formed_by policy _ Finalize refl (declared refl) (calls refl)
+no_ill_form policy (command.Init digest author name payload tag) declared calls = well_formed_by policy (command.Init digest author name payload tag) Init refl (declared refl) (calls refl)
+no_ill_form policy (command.Basic priority parent author name payload tag) declared calls = well_formed_by policy (command.Basic priority parent author name payload tag) (Basic priority) refl (declared refl) (calls refl)
+no_ill_form policy (command.Finalize parent author name payload tag) declared calls = well_formed_by policy (command.Finalize parent author name payload tag) Finalize refl (declared refl) (calls refl)
 no_ill_form policy (command.Merge left right) declared calls = refl
 
 merge_is_allowed : (policy : List PlacedItem) (rows : List Row) (c : Command) → is_merge c ≡ true → not_allowed policy rows (call_of policy c) ≡ None
@@ -160,13 +161,13 @@ lacking cs (i ∷ ids) id is = by (has_id cs i) refl is (lacking cs ids id)
         → (find (λ id. not (has_id cs id)) ids ≡ Some id → Contains ids id × (IsHeld cs id → ⊥)) → Contains (i ∷ ids) id × (IsHeld cs id → ⊥)
     by true held later rest = let r = rest later in (behind_head i ids id r.0, r.1)
     by false none here rest =
-        let same : i ≡ id = cc in
+        let same : i ≡ id = same_Some i id here in
         (subst (λ z. Contains (i ∷ ids) z) same (at_head i ids), (λ held. let also : has_id cs i ≡ true = subst (λ z. IsHeld cs z) (sym same) held in let no : false ≡ true = sym none ∙ also in absurd cc))
 
 missing_hinders : (cs : List Command) (c : Command) (found : Option (List ℕ)) → find (λ id. not (has_id cs id)) (parents_of c) ≡ found → (cause : Reason)
     → option_map (λ id. reason.MissingParent id) found ≡ Some cause → IsHindered cs c cause
 missing_hinders cs c None is cause same = absurd cc
-missing_hinders cs c (Some id) is cause same = let one : reason.MissingParent id ≡ cause = cc in subst (IsHindered cs c) one (lacking cs (parents_of c) id is)
+missing_hinders cs c (Some id) is cause same = let one : reason.MissingParent id ≡ cause = same_Some (reason.MissingParent id) cause same in subst (IsHindered cs c) one (lacking cs (parents_of c) id is)
 
 -- the finalize beside
 first_beside : (P : Command → Type 0) (fs : List Command) (id : List ℕ) → IsFirstFinalizeWithout P fs (Some id)
@@ -175,7 +176,7 @@ first_beside P [] id is = let no : Some id ≡ None = is in absurd cc
 first_beside P (g ∷ fs) id is =
     elim is [
       | inl met ↦ let r = first_beside P fs id met.1 in (r.0, behind_head g fs r.0 r.1, r.2, r.3, r.4)
-      | inr found ↦ let same : Some id ≡ Some (command_id g) = found.2 in let one : command_id g ≡ id = cc in (g, at_head g fs, found.0, one, found.1)
+      | inr found ↦ let same : Some id ≡ Some (command_id g) = found.2 in let one : command_id g ≡ id = sym (same_Some id (command_id g) same) in (g, at_head g fs, found.0, one, found.1)
     ]
 
 beside_hinders : (cs : List Command) (c : Command) (beside : Option (List ℕ)) → IsFirstBeside cs c beside → (final : Bool) → is_finalize c ≡ final → (cause : Reason)
@@ -183,11 +184,11 @@ beside_hinders : (cs : List Command) (c : Command) (beside : Option (List ℕ)) 
 beside_hinders cs c beside first false is cause same = absurd cc
 beside_hinders cs c None first true is cause same = absurd cc
 beside_hinders cs c (Some id) first true is cause same =
-    let one : reason.ParallelFinalize id ≡ cause = cc in subst (IsHindered cs c) one (is, first_beside (IsBehind cs c) cs id first)
+    let one : reason.ParallelFinalize id ≡ cause = same_Some (reason.ParallelFinalize id) cause same in subst (IsHindered cs c) one (is, first_beside (IsBehind cs c) cs id first)
 
 full_hinders : (cs : List Command) (c : Command) (b : Bool) → nat_le max_commands (length cs) ≡ b → (cause : Reason) → cond b (Some reason.Full) None ≡ Some cause → IsHindered cs c cause
 full_hinders cs c false is cause same = absurd cc
-full_hinders cs c true is cause same = let one : reason.Full ≡ cause = cc in subst (IsHindered cs c) one (leb-true max_commands (length cs) is)
+full_hinders cs c true is cause same = let one : reason.Full ≡ cause = same_Some reason.Full cause same in subst (IsHindered cs c) one (leb-true max_commands (length cs) is)
 
 -- ---- the answer
 
