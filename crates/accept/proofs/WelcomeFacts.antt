@@ -221,7 +221,7 @@ module _ (criteria : Criteria) (graph_id : Option (List ℕ)) (cs sound : List C
         no_bad_envelope criteria.good c (λ none. (lawful none).tag),
         ap (option_map (λ cause. reason.Policy cause)) (no_ill_form criteria.policy c (λ none. (lawful none).kind) is_call),
         ap (option_map (λ cause. reason.Policy cause))
-        (is_allowed rows at (all_held cs (parents_of c) (no_map (λ id. reason.MissingParent id) (find (λ id. not (has_id cs id)) (parents_of c)) held)) (is_merge c) refl),
+            (is_allowed rows at (all_held cs (parents_of c) (no_map (λ id. reason.MissingParent id) (find (λ id. not (has_id cs id)) (parents_of c)) held)) (is_merge c) refl),
       ))
       (λ cause is. (fresh, beside_hinders cs c beside first (is_finalize c) refl cause is))
       (λ cause is. (fresh, full_hinders cs c (nat_le max_commands (length cs)) refl cause is))

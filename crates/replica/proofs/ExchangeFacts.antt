@@ -86,8 +86,7 @@ module _ {D E : Type 0} (good : List ℕ → List ℕ → List ℕ → Bool) (cr
       let again = same_response x.answer x.left.held.graph_id response on.0 given.2.2 on.1 in
       let left_is : x.left.held.commands ≡ x.asker.held.commands ++ tally.added = ap (λ k. k.held.commands) got.2.2 ∙ takes.commands in
       let rest = come xs x.left.held.commands x.responder.held.commands (next_of response) x.next (subst (λ r. AreNextBytes (next_of r) x.next) again on.2) is.7 closed in
-      let answer : Answer = record { held = x.responder.held.commands; response = response } in
-      (
+      let answer : Answer = record { held = x.responder.held.commands; response = response } in (
         record { answer = answer; held = x.asker.held.commands; tally = tally } ∷ rest.0,
         record {
           answered = (
@@ -99,8 +98,8 @@ module _ {D E : Type 0} (good : List ℕ → List ℕ → List ℕ → Bool) (cr
           taken = (
             is.3,
             subst (λ k. IsTake k (Some id) x.asker.held.commands response.commands tally) is.4.same_criteria
-            (subst (λ g. IsTake (criteria_of good x.asker) g x.asker.held.commands response.commands tally) is.4.graph
-            (subst (λ r. IsTake (criteria_of good x.asker) x.asker.held.graph_id x.asker.held.commands r.commands tally) read takes.take)),
+                (subst (λ g. IsTake (criteria_of good x.asker) g x.asker.held.commands response.commands tally) is.4.graph
+                (subst (λ r. IsTake (criteria_of good x.asker) x.asker.held.graph_id x.asker.held.commands r.commands tally) read takes.take)),
             subst (λ l. AreTaken criteria (Some id) l rest.0) left_is rest.1.taken,
           );
           refused = ap (λ l. l ++ all_refused rest.0) (sym takes.told.refused) ∙ ap (λ l. x.taken.refused ++ l) rest.1.refused;
@@ -118,8 +117,7 @@ module _ {D E : Type 0} (good : List ℕ → List ℕ → List ℕ → Bool) (cr
       let asked = whole.asked in
       let named : asked.0 ≡ id = same_Some asked.0 id (sym asked.1 ∙ whole.in_graph.graph) in
       let first : IsRequest (request_of id asker.held.commands) request = subst (λ i. IsRequest (request_of i asker.held.commands) request) named asked.2 in
-      let turns = come xs asker.held.commands responder.held.commands (Some (request_of id asker.held.commands)) (Some request) first whole.exchanged closed in
-      (
+      let turns = come xs asker.held.commands responder.held.commands (Some (request_of id asker.held.commands)) (Some request) first whole.exchanged closed in (
         turns.0,
         record { answered = turns.1.answered; taken = turns.1.taken; later = subst (λ l. Begins l end) (sym turns.1.left) whole.later },
         turns.1.refused,

@@ -105,9 +105,10 @@ module _ (welcome : AreWelcome) (criteria : Criteria) (id : List ℕ) (end last 
     all_taken : (list front : List Command) (before behind : Tally) → IsTakenOn criteria (Some id) mine before list behind → ((c : Command) → Contains list c → Contains last c)
         → Begins (mine ++ behind.added) end → EachAfter (HasParents last ids) front list → ((x : Command) → Contains front x → Contains (mine ++ before.added) x) → before.refused ≡ []
         → (behind.refused ≡ []) × ((x : Command) → Contains (front ++ list) x → Contains (mine ++ behind.added) x)
-    all_taken [] front before behind is sent begins each held none =
-        (subst (λ t. t.refused ≡ []) (sym is) none,
-        (λ x inside. subst (λ t. Contains (mine ++ t.added) x) (sym is) (elim (Contains-append_cases front [] x inside) [ inl here ↦ held x here | inr never ↦ absurd (none_element x never) ])))
+    all_taken [] front before behind is sent begins each held none = (
+      subst (λ t. t.refused ≡ []) (sym is) none,
+      (λ x inside. subst (λ t. Contains (mine ++ t.added) x) (sym is) (elim (Contains-append_cases front [] x inside) [ inl here ↦ held x here | inr never ↦ absurd (none_element x never) ])),
+    )
     all_taken (c ∷ more) front before behind is sent begins each held none =
         let now = counted before c is.0 in
         let whole = added_grows criteria (Some id) mine (c ∷ more) before behind is in
@@ -117,10 +118,10 @@ module _ (welcome : AreWelcome) (criteria : Criteria) (id : List ℕ) (end last 
         let one = one_taken before c is.0 (answered welcome criteria id end last meet (mine ++ before.added) before_begins c is.0 among is.1) before_begins among parents none in
         let on : (x : Command) → Contains (front ++ c ∷ []) x → Contains (mine ++ now.added) x =
         λ x inside.
-            elim (Contains-append_cases front (c ∷ []) x inside) [
-              | inl older ↦ leads_has (mine ++ before.added) (mine ++ now.added) (leads_behind mine before.added now.added (one_added before c is.0)) x (held x older)
-              | inr newest ↦ elim (head_cases c [] x newest) [ inl same ↦ subst (λ z. Contains (mine ++ now.added) z) same one.1 | inr never ↦ absurd (none_element x never) ]
-            ] in
+        elim (Contains-append_cases front (c ∷ []) x inside) [
+          | inl older ↦ leads_has (mine ++ before.added) (mine ++ now.added) (leads_behind mine before.added now.added (one_added before c is.0)) x (held x older)
+          | inr newest ↦ elim (head_cases c [] x newest) [ inl same ↦ subst (λ z. Contains (mine ++ now.added) z) same one.1 | inr never ↦ absurd (none_element x never) ]
+        ] in
         let rest = all_taken more (front ++ c ∷ []) now behind is.2 (λ y h. sent y (behind_head c more y h)) begins each.1 on one.0 in
         (rest.0, (λ x inside. rest.1 x (subst (λ l. Contains l x) (sym (append_assoc front (c ∷ []) more)) inside)))
 

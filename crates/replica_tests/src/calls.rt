@@ -72,21 +72,9 @@ pub fn act<E: Envelope, L: Ledger>(
     let action = Text::from_slice(alloc, action)?;
     let args = arguments(alloc, values)?;
     if first {
-        return Ok(published(party.init(
-            alloc,
-            &action,
-            args.as_slice(),
-            env,
-            steps,
-        )));
+        return Ok(published(party.init(alloc, &action, args.as_slice(), env, steps)));
     }
-    Ok(published(party.act(
-        alloc,
-        &action,
-        args.as_slice(),
-        env,
-        steps,
-    )))
+    Ok(published(party.act(alloc, &action, args.as_slice(), env, steps)))
 }
 
 fn act_often<E: Envelope, L: Ledger>(

@@ -17,10 +17,20 @@ use std::test::*;
 /// Replicas 0 and 1 come to one graph, and 2 has another one.
 const REFUSALS: &[Line] = &[
     Line(0, Ask, Refused("no graph"), 0),
-    Line(0, Act(1, "low", &[Int(1)]), Refused("no graph of an action"), 0),
+    Line(
+        0,
+        Act(1, "low", &[Int(1)]),
+        Refused("no graph of an action"),
+        0,
+    ),
     Line(0, Init("nope", &[]), Refused("unknown action"), 0),
     Line(0, Init("begin", &[Int(1)]), Refused("arguments"), 0),
-    Line(0, Init("low", &[Int(1)]), Refused("command of wrong kind"), 0),
+    Line(
+        0,
+        Init("low", &[Int(1)]),
+        Refused("command of wrong kind"),
+        0,
+    ),
     Line(0, Init("begin", &[]), Published(1, 0, 0, 1), 1),
     Line(0, Init("begin", &[]), Refused("has graph"), 1),
     Line(0, Join(0), Refused("has graph"), 1),
@@ -54,9 +64,19 @@ const REFUSALS: &[Line] = &[
     Line(0, Act(1, "probe", &[Int(1)]), Refused("fault unwrap"), 1),
     Line(0, Act(1, "free", &[Int(1)]), Refused("command check"), 1),
     Line(0, Act(1, "begin", &[]), Refused("command of wrong kind"), 1),
-    Line(0, Act(1, "say", &[Str(""), Int(0), Int(2)]), Published(1, 0, 1, 1), 2),
+    Line(
+        0,
+        Act(1, "say", &[Str(""), Int(0), Int(2)]),
+        Published(1, 0, 1, 1),
+        2,
+    ),
     Line(0, Act(1, "probe", &[Int(1)]), Refused("check"), 2),
-    Line(0, Act(1, "say", &[Str(""), Int(0), Int(3)]), Refused("command fault"), 2),
+    Line(
+        0,
+        Act(1, "say", &[Str(""), Int(0), Int(3)]),
+        Refused("command fault"),
+        2,
+    ),
     Line(0, Restart, Holds(2), 2),
 ];
 
@@ -98,7 +118,15 @@ fn unsealed(alloc: Global) -> Result<(Said, usize), NoMemory> {
     failing.push(2)?;
     let mut env = ListEnvelope::new(alloc, failing);
     act(alloc, &mut party, true, "begin", &[], &mut env, &mut steps)?;
-    let said = act(alloc, &mut party, false, "low", &[Int(1)], &mut env, &mut steps)?;
+    let said = act(
+        alloc,
+        &mut party,
+        false,
+        "low",
+        &[Int(1)],
+        &mut env,
+        &mut steps,
+    )?;
     Ok((said, party.state().graph().len()))
 }
 

@@ -151,7 +151,12 @@ fn met(alloc: Global, session: &Session) -> Result<usize, NoMemory> {
 #[test]
 fn sessions_go_as_written(rt: HostRuntime) -> Result<(), Fail> {
     for session in &SESSIONS {
-        assert_eq!(rt; met(rt.alloc(), session)?, session.lines.len(), "{}", session.title);
+        assert_eq!(rt;
+            met(rt.alloc(), session)?,
+            session.lines.len(),
+            "{}",
+            session.title
+        );
     }
     Ok(())
 }
