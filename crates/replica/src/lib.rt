@@ -4,6 +4,7 @@
 mod acting;
 mod counts;
 mod front;
+pub mod laws;
 mod messages;
 mod refusal;
 mod replica;
