@@ -1,5 +1,5 @@
 -- The calls of two replicas come to a session.
-use Rattle.std.proofs.Common.{◌≡◌, ℕ, ◌⊎◌, inl, inr, Bool, true, false, cond, List, [], ◌∷◌, ◌++◌, Option, Some, None, Result, Ok, Err, IfSome, refl, sym, ap, subst, ◌∙◌}
+use Rattle.std.proofs.Common.{◌≡◌, ℕ, ◌⊎◌, Bool, true, false, cond, List, [], ◌∷◌, ◌++◌, Option, Some, None, Ok, Err, IfSome, refl, sym, ap, subst, ◌∙◌}
 use Rattle.std.specs.List.{Contains}
 use Rattle.std.specs.Str.{bytes_eq}
 use Rattle.std.proofs.lemmas.Option.{same_Some}
@@ -8,8 +8,7 @@ use Rattle.braid_run.specs.Soundness.{Criteria}
 use Rattle.command.specs.Closed.{IsClosed}
 use Rattle.command.specs.Wire.{command_id}
 use Rattle.command.specs.declared.command.Command.{Command}
-use Rattle.replica.specs.Calls.{Answers, Asks, AsksNext, TakesIn}
-use Rattle.replica.specs.Exchanges.{AreExchanged, AreWhole, Exchange, IsIn, TellsUnion, IsToldRefused, last_left, last_responder, told_refused}
+use Rattle.replica.specs.Exchanges.{AreExchanged, AreWhole, Exchange, TellsUnion, IsToldRefused, last_left, last_responder, told_refused}
 use Rattle.replica.specs.Kept.{Kept, criteria_of}
 use Rattle.replica.specs.Messages.{AreNextBytes, IsRead, IsRequestRead, IsResponseRead, for_graph}
 use Rattle.replica.specs.Sessions.{AreTaken, IsForNow, IsWhole, MayBeOne, Meet, Turn, all_refused, answers_of, last_answered, last_taken, union}

@@ -1,5 +1,5 @@
 -- The takes of a session: what is sent is held behind them, or was refused for now.
-use Rattle.std.proofs.Common.{◌≡◌, ℕ, ◌≤◌, ◌⊎◌, inl, inr, List, [], ◌∷◌, ◌++◌, length, Option, Some, refl, sym, ap, subst, ◌∙◌, arith, append_assoc, append-nil}
+use Rattle.std.proofs.Common.{◌≡◌, ℕ, ◌≤◌, ◌⊎◌, inl, inr, List, [], ◌∷◌, ◌++◌, length, Option, Some, refl, sym, subst, arith}
 use Rattle.std.specs.List.{All, Contains}
 use Rattle.std.proofs.lemmas.List.Elements.{All-contains, Contains-append_cases, Contains-append_left, Contains-append_right, Contains-push}
 use Rattle.accept.specs.Admission.{IsAdmission}
@@ -18,8 +18,7 @@ use Rattle.command.proofs.AncestorFacts.{inside_down}
 use Rattle.command.proofs.ClosedFacts.{held_command, parents_held}
 use Rattle.command.proofs.ListFacts.{head_cases, none_element}
 use Rattle.replica.specs.Sessions.{AreTaken, IsForNow, IsWhole, Meet, Turn, WasRefused, all_refused, answers_of, last_answered, last_taken}
-use Rattle.replica.proofs.JoinLists.{Leads, leads_behind, leads_closed, leads_has, leads_held, leads_itself, leads_length, leads_on, of_filter}
-use Rattle.sync_peer.specs.Laws.{ArePartedInOrder, IsKnownId}
+use Rattle.replica.proofs.JoinLists.{Leads, leads_behind, leads_closed, leads_has, leads_itself, leads_length, leads_on, of_filter}
 use Rattle.sync_peer.specs.Missing.{IsKnown, held_ids}
 use Rattle.sync_peer.specs.Samples.{sample}
 use Rattle.sync_peer.specs.Sessions.{Begins, all_sent}

@@ -1,5 +1,5 @@
 -- Lists that begin others, filters, and the union of two lists of commands.
-use Rattle.std.proofs.Common.{◌≡◌, ℕ, ◌<◌, ◌≤◌, ◌⊎◌, inl, inr, Bool, true, false, not, IsTrue, List, [], ◌∷◌, ◌++◌, filter, length, refl, sym, ap, subst, ◌∙◌, arith, append_assoc, append-nil, length-append}
+use Rattle.std.proofs.Common.{◌≡◌, ℕ, ◌<◌, ◌≤◌, ◌⊎◌, inl, inr, Bool, true, false, not, List, [], ◌∷◌, ◌++◌, filter, length, refl, sym, ap, subst, ◌∙◌, arith, append_assoc, append-nil, length-append}
 use Rattle.std.specs.List.{Contains}
 use Rattle.std.proofs.lemmas.List.Elements.{Contains-append_cases, Contains-append_left, Contains-append_right, filter-append}
 use Rattle.braid_run.specs.Places.{AgreeOnIds}
@@ -7,7 +7,7 @@ use Rattle.command.specs.Closed.{IsClosed, IsHeld, IsNext, has_id}
 use Rattle.command.specs.Wire.{command_id}
 use Rattle.command.specs.declared.command.Command.{Command}
 use Rattle.command.proofs.ClosedFacts.{held_by, held_command}
-use Rattle.command.proofs.ListFacts.{at_head, behind_head, each_left, head_cases, in_middle, none_element, split_at}
+use Rattle.command.proofs.ListFacts.{at_head, behind_head, each_left, head_cases, in_middle, split_at}
 use Rattle.replica.specs.Sessions.{union}
 use Rattle.sync_peer.specs.Sessions.{Begins}
 

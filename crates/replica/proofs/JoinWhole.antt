@@ -1,8 +1,7 @@
 -- Where the union could be one list, no take of a session refuses anything.
-use Rattle.std.proofs.Common.{◌≡◌, ℕ, ◌<◌, ◌≤◌, ◌⊎◌, inl, inr, true, List, [], ◌∷◌, ◌++◌, length, Option, Some, refl, sym, ap, subst, ◌∙◌, arith, append_assoc}
+use Rattle.std.proofs.Common.{◌≡◌, ℕ, ◌≤◌, ◌⊎◌, inl, inr, true, List, [], ◌∷◌, ◌++◌, length, Some, refl, sym, ap, subst, ◌∙◌, arith, append_assoc}
 use Rattle.std.specs.List.{Contains}
 use Rattle.std.proofs.lemmas.List.Elements.{Contains-append_cases, Contains-append_left, Contains-append_right, Contains-push}
-use Rattle.accept.specs.Admission.{IsAdmission}
 use Rattle.accept.specs.Laws.{IsHindered, IsWelcome}
 use Rattle.accept.specs.Takes.{IsTakenOn, Tally, counted, no_tally}
 use Rattle.accept.specs.declared.answer.Admit.{Admit}
@@ -11,7 +10,7 @@ use Rattle.accept.specs.declared.answer.Reason.{Reason}
 use Rattle.accept.specs.declared.answer.Reason.TheVariants as reason
 use Rattle.braid_run.specs.Places.{IsBehind}
 use Rattle.braid_run.specs.Soundness.{Criteria}
-use Rattle.command.specs.Ancestors.{Ancestor, IsParent}
+use Rattle.command.specs.Ancestors.{Ancestor}
 use Rattle.command.specs.Ancestors.Ancestor.{Parent, Further}
 use Rattle.command.specs.Closed.{IsClosed, IsHeld}
 use Rattle.command.specs.Each.{EachAfter}
@@ -23,7 +22,7 @@ use Rattle.command.proofs.ClosedFacts.{held_by, held_command, held_more, parents
 use Rattle.command.proofs.ListFacts.{at_head, behind_head, each_left, each_right, head_cases, none_element}
 use Rattle.replica.specs.Sessions.{AreTaken, HoldsUnion, IsWhole, MayBeOne, Meet, Turn, all_refused, answers_of, last_answered, last_taken, union}
 use Rattle.replica.proofs.JoinFacts.{AreWelcome, added_grows, answered, known_is_held, one_added, taken_leads}
-use Rattle.replica.proofs.JoinLists.{Leads, beyond, leads_behind, leads_closed, leads_has, leads_held, leads_on, union_cases, union_has, union_longer}
+use Rattle.replica.proofs.JoinLists.{beyond, leads_behind, leads_closed, leads_has, leads_held, leads_on, union_cases, union_has, union_longer}
 use Rattle.sync_peer.specs.Laws.{HasParents, IsKnownId}
 use Rattle.sync_peer.specs.Missing.{held_ids}
 use Rattle.sync_peer.specs.Samples.{sample}

@@ -1,5 +1,5 @@
 -- A session of two replicas under one policy: one asks, the other answers, and each answer is taken. Both may change meanwhile.
-use Rattle.std.specs.Prelude.{ℕ, ◌⊎◌, ◌≡◌, ◌≤◌, List, [], ◌∷◌, ◌++◌, filter, length, map, not, Option, Some}
+use Rattle.std.specs.Prelude.{ℕ, ◌≡◌, ◌≤◌, List, [], ◌∷◌, ◌++◌, filter, length, map, not, Option, Some}
 use Rattle.std.specs.List.{Contains}
 use Rattle.accept.specs.Takes.{IsTake, Refusal, Tally}
 use Rattle.accept.specs.declared.answer.Reason.{Reason}
