@@ -56,7 +56,7 @@ module _ {D : Type 0} where
   took : (old : Kept D) (good : List ℕ → List ℕ → List ℕ → Bool) (bytes : Bytes) (taken : Taken) (new : Kept D) → IsTakeOf old good bytes taken new → new.disk ≡ old.disk
   took old good bytes taken new (response, read, (held, takes, set)) = ap (λ k. k.disk) set
 
-  take_keeps : (good : List ℕ → List ℕ → List ℕ → Bool) (bytes : Bytes) (result : Result Taken Refusal) (name : Bytes) (old new : List (Named D))
+  pub take_keeps : (good : List ℕ → List ℕ → List ℕ → Bool) (bytes : Bytes) (result : Result Taken Refusal) (name : Bytes) (old new : List (Named D))
       → Changes old name (λ before after. TakesIn before good bytes result after) new → Keeps old new
   take_keeps good bytes result name old new changes =
       changes_keep old name (λ before after. TakesIn before good bytes result after) new

@@ -5,3 +5,5 @@ mod KeepFacts
 mod LineFacts
 mod ChangeFacts
 mod OpenFacts
+mod RoundFacts
+mod SessionStops

@@ -1,11 +1,10 @@
 //! `sync A B`: a session of two replicas.
 
-ghost use Rattle.std.specs.Prelude.{◌≡◌, ◌∷◌, [], IfErr, IfOk, true};
-ghost use Rattle.world.specs.Lines.{RunsSync, Tags};
-ghost use Rattle.world.specs.Sessions.{no_sum, with_taken};
+ghost use Rattle.std.specs.Prelude.{◌≡◌, IfErr, true};
+ghost use Rattle.world.specs.Sessions.{synced_line};
 ghost use Rattle.world.specs.declared.stop.RunStop.TheVariants as stop;
 ghost use Rattle.world.specs.working.Places.{is_named};
-ghost use Rattle.world.specs.working.Rounds.{ComesTo, GoesRound, RunsSession, Syncs, adds_up};
+ghost use Rattle.world.specs.working.Rounds.{GoesRound, RunsSession, Syncs};
 ghost use Rattle.world.specs.working.Words.{Words};
 
 use crate::events::{answer, ask, next, take};
@@ -22,9 +21,7 @@ use replica::{Refusal, Taken};
 use script_texts::synced_text;
 use std::alloc::Global;
 use std::sync::ledger::Ledger;
-
-/// A session has at most so many answers: each but the last brings a command, and a message names no place beyond 65,536.
-const MOST_ANSWERS: usize = 65_537;
+use sync_codec::{requests_are_unambiguous, responses_are_unambiguous};
 
 /// A round of a session: B answers the request, A takes the response and asks for what follows.
 fn round<R: Runner, G: Graph, F: FactBase, D: Disk, E: Envelope, L: Ledger>(
@@ -54,7 +51,8 @@ fn round<R: Runner, G: Graph, F: FactBase, D: Disk, E: Envelope, L: Ledger>(
     }
 }
 
-/// Rounds from the first request on, while there is a next one.
+/// Rounds from the first request on, while there is a next one. It ends, since each answer that has more brings a command, and a message names no
+/// place beyond 65,536.
 fn session<R: Runner, G: Graph, F: FactBase, D: Disk, E: Envelope, L: Ledger>(
     alloc: Global,
     replicas: &mut Vec<Named<R, G, F, D>>,
@@ -67,12 +65,14 @@ fn session<R: Runner, G: Graph, F: FactBase, D: Disk, E: Envelope, L: Ledger>(
     requires b { is_named replicas.old.items b.now ≡ true }
     ensures session { RunsSession (record { good = E.good; told = E.tag_of }) a.now b.now replicas.old.items result replicas.new.items }
 {
+    requests_are_unambiguous();
+    responses_are_unambiguous();
     let mut request = match ask(alloc, replicas.as_slice(), a) {
         Ok(request) => request,
         Err(why) => return Err(why),
     };
     let mut sum = Sum::new(alloc);
-    for _ in 0..MOST_ANSWERS {
+    'rounds: loop {
         let (taken, next) = match round(alloc, replicas, a, b, request.as_slice(), env, steps) {
             Ok(both) => both,
             Err(why) => return Err(why),
@@ -83,7 +83,6 @@ fn session<R: Runner, G: Graph, F: FactBase, D: Disk, E: Envelope, L: Ledger>(
             None => return Ok(sum),
         }
     }
-    unreachable!()
 }
 
 /// What `sync A B` prints.

@@ -43,10 +43,18 @@ impl Sum {
         requires repeats { self.old.repeats + taken.repeats < 2 ^ 64 }
         ensures { OnOk result (self.new ≡ with_taken self.old taken) }
     {
-        self.refused.append(taken.refused)?;
+        let Taken {
+            added,
+            repeats,
+            refused,
+            more: _,
+            cut: _,
+            entries: _,
+        } = taken;
+        self.refused.append(refused)?;
         self.answers += 1;
-        self.added += taken.added;
-        self.repeats += taken.repeats;
+        self.added += added;
+        self.repeats += repeats;
         Ok(())
     }
 }

@@ -1,12 +1,10 @@
 -- The rounds of a session, as its functions say them.
-use Rattle.std.specs.Prelude.{◌≡◌, ◌⊎◌, ℕ, ◌+◌, ◌≤◌, Bool, List, length, Option, Some, None, Result, Ok, Err}
+use Rattle.std.specs.Prelude.{◌≡◌, ◌⊎◌, ℕ, Bool, List, Option, Result, Ok, Err}
 use Rattle.replica.specs.Calls.{Answers, TakesIn}
 use Rattle.replica.specs.declared.counts.Taken.{Taken}
 use Rattle.replica.specs.declared.refusal.Refusal.{Refusal}
 use Rattle.replica.specs.declared.refusal.Refusal.TheVariants as refusal
 use Rattle.script_texts.specs.Bytes.{Bytes}
-use Rattle.sync_codec.specs.Messages.{IsRequest}
-use Rattle.sync_codec.specs.declared.request.Request.{Request}
 use Rattle.world.specs.Lines.{RunsSync, Tags}
 use Rattle.world.specs.Sessions.{Goes, IsRound, Session, Sum}
 use Rattle.world.specs.Stops.{Came}
@@ -30,14 +28,3 @@ module _ {D : Type 0} where
   abbrev pub Syncs : Tags → Bytes → Bytes → List (Named D) → Result Bytes RunStop → List (Named D) → Type 0
   Syncs tags a b old (Ok text) new = RunsSync tags a b old text new
   Syncs tags a b old (Err why) new = (new ≡ old) ⊎ ((text : Bytes) × RunsSync tags a b old text new) ⊎ Came tags a b old new
-
--- How many commands the takes have met.
-abbrev pub met_commands : Sum → ℕ
-met_commands sum = sum.added + sum.repeats + length sum.refused
-
--- The next request asks from behind the commands that were met, of which each answer but the first brought one.
-pub record AsksBehind (sum : Sum) (request : Bytes) : Type 0 where
-  pub message : Request
-  pub spelled : IsRequest message request
-  pub from : message.from ≡ met_commands sum
-  pub few : sum.answers ≤ met_commands sum
