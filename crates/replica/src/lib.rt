@@ -10,5 +10,6 @@ mod replica;
 mod taking;
 
 pub use counts::{Published, Refused, Taken};
+pub use journal::OpenFault;
 pub use refusal::Refusal;
 pub use replica::Replica;
