@@ -1,6 +1,9 @@
 -- What each line of a script does: from a world to the line's text and the world behind it.
 use Rattle.std.specs.Prelude.{◌≡◌, ℕ, Bool, true, false, List, [], ◌∷◌, length, codes, Option, Some, None, Result, Ok, Err}
 use Rattle.base_bytes.specs.declared.arg.Arg.{Arg}
+use Rattle.braid_run.specs.RunOf.{IsRunOf}
+use Rattle.braid_run.specs.declared.entry.Entry.{Entry}
+use Rattle.fact_store.specs.declared.row.Row.{Row}
 use Rattle.policy_rules.specs.WellTyped.{items_of}
 use Rattle.replica.specs.Calls.{ActsIn, Answers, Asks, AsksNext, Begins, Joins, TakesIn}
 use Rattle.replica.specs.Kept.{Kept}
@@ -45,6 +48,13 @@ graph_to_join None None = Err refusal.NoGraph
 graph_to_join None (Some id) = Ok id
 
 module _ {D : Type 0} where
+  -- The facts, and the effects, of the run of the braid of the replica's own commands.
+  abbrev pub ShowsFacts : Bytes → Kept D → Bytes → Type 0
+  ShowsFacts a kept text = (rows : List Row) × (entries : List Entry) × IsRunOf kept.policy kept.held.commands rows entries × (text ≡ facts_text (items_of kept.policy) a rows)
+
+  abbrev pub ShowsEffects : Bytes → Kept D → Bytes → Type 0
+  ShowsEffects a kept text = (rows : List Row) × (entries : List Entry) × IsRunOf kept.policy kept.held.commands rows entries × (text ≡ effects_text (items_of kept.policy) a entries)
+
   -- A line that makes no message and uses no disk but those of the replicas.
   abbrev pub KeepsRest : Site D → Site D → Type 0
   KeepsRest old new = (new.messages ≡ old.messages) × (new.spare ≡ old.spare)
@@ -113,7 +123,7 @@ module _ {D : Type 0} where
     Runs old (line.Take a n) text new = RunsTake a (message_at old.messages n) old.replicas text new.replicas × KeepsRest old new
     Runs old (line.Inject bytes) text new = Makes (SaysInject bytes) old text new
     Runs old (line.Restart a) text new = RunsRestart a old.replicas text new.replicas × KeepsRest old new
-    Runs old (line.Facts a) text new = Of old.replicas a (λ kept. text ≡ facts_text (items_of kept.policy) a kept.held.rows) × (new ≡ old)
-    Runs old (line.Effects a) text new = Of old.replicas a (λ kept. text ≡ effects_text (items_of kept.policy) a kept.held.entries) × (new ≡ old)
+    Runs old (line.Facts a) text new = Of old.replicas a (λ kept. ShowsFacts a kept text) × (new ≡ old)
+    Runs old (line.Effects a) text new = Of old.replicas a (λ kept. ShowsEffects a kept text) × (new ≡ old)
     Runs old (line.Graph a) text new = Of old.replicas a (λ kept. text ≡ graph_text a kept.held.commands) × (new ≡ old)
     Runs old line.Blank text new = (text ≡ []) × (new ≡ old)

@@ -57,5 +57,6 @@ pub fn replica_of<'a, R: Runner, G: Graph, F: FactBase, D: Disk>(
     requires there { is_named replicas.now name.now ≡ true }
     ensures { kept_of replicas.now name.now ≡ Some result.now }
 {
-    &replicas[place_of(replicas, name)].replica
+    let one = &replicas[place_of(replicas, name)];
+    &one.replica
 }

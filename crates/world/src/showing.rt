@@ -1,9 +1,9 @@
 //! The lines that change nothing: what a replica holds, in words.
 
 ghost use Rattle.std.specs.Prelude.{◌≡◌, length, true};
-ghost use Rattle.policy_rules.specs.WellTyped.{items_of};
 ghost use Rattle.script_texts.specs.Replies.{replica_text};
-ghost use Rattle.state_texts.specs.States.{effects_text, facts_text, graph_text};
+ghost use Rattle.state_texts.specs.States.{graph_text};
+ghost use Rattle.world.specs.Lines.{ShowsEffects, ShowsFacts};
 ghost use Rattle.world.specs.Worlds.{Of};
 ghost use Rattle.world.specs.working.Places.{is_named};
 ghost use Rattle.world.specs.working.Running.{Showing};
@@ -39,7 +39,7 @@ pub fn facts_line<R: Runner, G: Graph, F: FactBase, D: Disk>(
     name: &Text,
 ) -> Result<Bytes, RunStop>
     requires there { is_named replicas.now name.now ≡ true }
-    ensures line { Showing (λ text. Of replicas.now name.now (λ kept. text ≡ facts_text (items_of kept.policy) name.now kept.held.rows)) result }
+    ensures line { Showing (λ text. Of replicas.now name.now (λ kept. ShowsFacts name.now kept text)) result }
 {
     let replica = replica_of(replicas, name);
     Ok(facts_text(alloc, replica.policy(), name, replica.state().facts())?)
@@ -52,7 +52,7 @@ pub fn effects_line<R: Runner, G: Graph, F: FactBase, D: Disk>(
     name: &Text,
 ) -> Result<Bytes, RunStop>
     requires there { is_named replicas.now name.now ≡ true }
-    ensures line { Showing (λ text. Of replicas.now name.now (λ kept. text ≡ effects_text (items_of kept.policy) name.now kept.held.entries)) result }
+    ensures line { Showing (λ text. Of replicas.now name.now (λ kept. ShowsEffects name.now kept text)) result }
 {
     let replica = replica_of(replicas, name);
     Ok(effects_text(

@@ -1,13 +1,12 @@
 -- What the functions that run one kind of line say.
 use Rattle.std.specs.Prelude.{◌≡◌, ◌⊎◌, List, [], length, Option, codes, false, true, Result, Ok, Err}
-use Rattle.policy_rules.specs.WellTyped.{items_of}
 use Rattle.replica.specs.Calls.{ActsIn, Begins}
 use Rattle.script.specs.declared.line.Line.{Line}
 use Rattle.script.specs.declared.line.Line.TheVariants as line
 use Rattle.script_texts.specs.Bytes.{Bytes}
 use Rattle.script_texts.specs.Replies.{replica_text}
-use Rattle.state_texts.specs.States.{effects_text, facts_text, graph_text}
-use Rattle.world.specs.Lines.{RunsAction, RunsJoin, RunsRestart, RunsSync, RunsTake, SaysAnswer, SaysAsk, SaysInject, SaysNext, Tags, action_of}
+use Rattle.state_texts.specs.States.{graph_text}
+use Rattle.world.specs.Lines.{RunsAction, RunsJoin, RunsRestart, RunsSync, RunsTake, SaysAnswer, SaysAsk, SaysInject, SaysNext, ShowsEffects, ShowsFacts, Tags, action_of}
 use Rattle.world.specs.Worlds.{Named, Of, Site, message_at, next_number}
 use Rattle.world.specs.declared.said.Said.{Said}
 use Rattle.world.specs.declared.stop.RunStop.{RunStop}
@@ -44,8 +43,8 @@ module _ {D : Type 0} where
   -- What a line says that tells what is held.
   abbrev pub ShowsIn : List (Named D) → Line → Bytes → Type 0
   ShowsIn replicas (line.Replica a) text = Of replicas a (λ kept. text ≡ replica_text a (length kept.held.commands))
-  ShowsIn replicas (line.Facts a) text = Of replicas a (λ kept. text ≡ facts_text (items_of kept.policy) a kept.held.rows)
-  ShowsIn replicas (line.Effects a) text = Of replicas a (λ kept. text ≡ effects_text (items_of kept.policy) a kept.held.entries)
+  ShowsIn replicas (line.Facts a) text = Of replicas a (λ kept. ShowsFacts a kept text)
+  ShowsIn replicas (line.Effects a) text = Of replicas a (λ kept. ShowsEffects a kept text)
   ShowsIn replicas (line.Graph a) text = Of replicas a (λ kept. text ≡ graph_text a kept.held.commands)
   ShowsIn replicas line.Blank text = text ≡ []
   ShowsIn replicas other text = ⊥
