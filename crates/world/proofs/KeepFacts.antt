@@ -11,7 +11,9 @@ use Rattle.replica.specs.declared.refusal.Refusal.{Refusal}
 use Rattle.script_texts.specs.Bytes.{Bytes}
 use Rattle.transaction.specs.Acting.{Request as Action}
 use Rattle.world.specs.Lines.{JoinsGraph, RunsAction, RunsJoin, RunsTake, Tags}
-use Rattle.world.specs.Sessions.{Goes, IsRound, Session, Sum, begins, done, more, no_answer, no_next, no_request, no_take}
+use Rattle.world.specs.Sessions.{Goes, IsRound, Session, Sum}
+use Rattle.world.specs.Sessions.Goes.{begins, more}
+use Rattle.world.specs.Sessions.Session.{done, no_answer, no_next, no_request, no_take}
 use Rattle.world.specs.Stops.{Came}
 use Rattle.world.specs.Worlds.{Changes, Named, kept_of, with_kept}
 
@@ -94,12 +96,12 @@ module _ {D : Type 0} where
   round_keeps good a b old request taken next new round = take_keeps good round.response (Ok taken) a old new round.take
 
   goes_keep : (good : List ℕ → List ℕ → List ℕ → Bool) (a b : Bytes) (first now : List (Named D)) (request : Bytes) (sum : Sum) → Goes good a b first now request sum → Keeps first now
-  goes_keep good a b first .first request sum (begins asks) = keeps_same first first refl
+  goes_keep good a b first now request sum (begins asks) = keeps_same first first refl
   goes_keep good a b first now request sum (more {old = old} {request = before} {sum = so_far} {taken = taken} goes round) =
       keeps_on first old now (goes_keep good a b first old before so_far goes) (round_keeps good a b old before taken (Ok (Some request)) now round)
 
   pub session_keeps : (good : List ℕ → List ℕ → List ℕ → Bool) (a b : Bytes) (first : List (Named D)) (result : Result Sum Refusal) (now : List (Named D)) → Session good a b first result now → Keeps first now
-  session_keeps good a b first result .first (no_request asks) = keeps_same first first refl
+  session_keeps good a b first result now (no_request asks) = keeps_same first first refl
   session_keeps good a b first result now (no_answer {request = request} {sum = sum} goes answers) = goes_keep good a b first now request sum goes
   session_keeps good a b first result now (no_take {request = request} {sum = sum} goes answers takes) = goes_keep good a b first now request sum goes
   session_keeps good a b first result now (no_next {old = old} {request = request} {sum = sum} {taken = taken} {why = why} goes round) =

@@ -76,6 +76,16 @@ none_is text is = absurd cc
 no_text : (a b text : Bytes) (reply : Result Sum Refusal) → reply ≡ Err refusal.NoMemory → synced_line a b reply ≡ Some text → ⊥
 no_text a b text reply lack is = none_is text (subst (λ (r : Result Sum Refusal). synced_line a b r ≡ Some text) lack is)
 
+stop_of : (reply : Result Sum Refusal) (s : RunStop) → IfErr reply (λ why. is_plain why ≡ true) → IsStopped reply s → s ≡ stop.NoMemory
+stop_of reply s plain (inl is) = is
+stop_of (Ok sum) s plain (inr is) = absurd is
+stop_of (Err why) s plain (inr is) = plain_stop why s plain is
+
+-- the words of a refusal are those of any reply that it is
+pub refused_words : (S : Type 0) (why : Refusal) (line : Option Bytes) (result : Result Bytes RunStop) → Words {T = Unit {0}} (Err why) line result → Words {T = S} (Err why) line result
+refused_words S why line (Ok text) words = words
+refused_words S why line (Err s) words = words
+
 module _ {D : Type 0} (good : List ℕ → List ℕ → List ℕ → Bool) (a b : Bytes) where
   session_plain : (first new : List (Named D)) (reply : Result Sum Refusal) → Session good a b first reply new → IfErr reply (λ why. is_plain why ≡ true)
   session_plain first new reply (no_request {why = why} (kept, is, asks)) = ask_plain kept why asks
@@ -91,11 +101,6 @@ module _ {D : Type 0} (tags : Tags) (a b : Bytes) where
   unfolding is_plain
   runs_plain old new reply (inl session) = session_plain tags.good a b old new reply session
   runs_plain old new reply (inr (lack, came)) = subst (λ r. IfErr r (λ why. is_plain why ≡ true)) (sym lack) refl
-
-  stop_of : (reply : Result Sum Refusal) (s : RunStop) → IfErr reply (λ why. is_plain why ≡ true) → IsStopped reply s → s ≡ stop.NoMemory
-  stop_of reply s plain (inl is) = is
-  stop_of (Ok sum) s plain (inr is) = absurd is
-  stop_of (Err why) s plain (inr is) = plain_stop why s plain is
 
   -- a session's line is stopped for want of memory alone
   pub lacks : (old new : List (Named D)) (reply : Result Sum Refusal) (result : Result Bytes RunStop) → RunsSession tags a b old reply new → Words reply (synced_line a b reply) result → IfErr result (λ s. s ≡ stop.NoMemory)

@@ -28,7 +28,7 @@ pub fn refused_line(
     names: &[&str],
     why: Refusal,
 ) -> Result<Bytes, RunStop>
-    ensures { Words (Err why) (refused_line verb.now (map (λ name. name.now) names.now) why) result }
+    ensures { Words {T = Unit {0}} (Err why) (refused_line verb.now (map (λ name. name.now) names.now) why) result }
 {
     let why = match line_refusal(why) {
         Ok(why) => why,
