@@ -1,6 +1,6 @@
 -- The names and the disks of the replicas stay, whatever a line does.
 use Rattle.std.proofs.Common.{◌≡◌, ◌⊎◌, inl, inr, ℕ, ◌+◌, Bool, true, false, cond, List, [], ◌∷◌, ◌++◌, find, length, map, Option, Some, None, option_map, Result, Ok, Err, refl, sym, ap, subst, ◌∙◌}
-use mathlib.Core.Option.{some-injective}
+use Rattle.std.proofs.lemmas.Option.{same_Some}
 use Rattle.std.specs.Str.{bytes_eq}
 use Rattle.replica.specs.Calls.{ActsIn, Begins, IsActionOf, IsTakeOf, Joins, TakesIn}
 use Rattle.replica.specs.Kept.{Kept}
@@ -33,7 +33,7 @@ front : {D : Type 0} (b : Bool) (r : Named D) (rs : List (Named D)) (name : Byte
     → option_map (λ x. x.kept) (cond b (Some r) (find (λ x. bytes_eq x.name name) rs)) ≡ Some before → after.disk ≡ before.disk
     → (kept_of rs name ≡ Some before → Keeps rs (with_kept rs name after)) → Keeps (r ∷ rs) (cond b (record r { kept = after } ∷ rs) (r ∷ with_kept rs name after))
 front true r rs name before after is same behind =
-    record { names = refl; disks = ap (λ d. d ∷ map (λ x. x.kept.disk) rs) (same ∙ ap (λ k. k.disk) (sym (some-injective r.kept before is))) }
+    record { names = refl; disks = ap (λ d. d ∷ map (λ x. x.kept.disk) rs) (same ∙ ap (λ k. k.disk) (sym (same_Some r.kept before is))) }
 front false r rs name before after is same behind =
     let k = behind is in record { names = ap (λ ns. r.name ∷ ns) k.names; disks = ap (λ ds. r.kept.disk ∷ ds) k.disks }
 

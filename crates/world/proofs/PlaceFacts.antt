@@ -1,6 +1,6 @@
 -- The replica of a name, by its place.
 use Rattle.std.proofs.Common.{◌≡◌, ℕ, suc, Bool, true, false, ◌||◌, cond, List, [], ◌∷◌, find, set, slice_get, Option, Some, option_map, refl, sym, ap, ◌∙◌}
-use mathlib.Core.Option.{some-injective}
+use Rattle.std.proofs.lemmas.Option.{same_Some}
 use Rattle.std.specs.Str.{bytes_eq}
 use Rattle.replica.specs.Kept.{Kept}
 use Rattle.script_texts.specs.Bytes.{Bytes}
@@ -27,7 +27,7 @@ changed_front : {D : Type 0} (b : Bool) (r : Named D) (rs : List (Named D)) (nam
     → slice_get (r ∷ rs) (cond b 0 (suc (place_in rs name))) ≡ Some one
     → (slice_get rs (place_in rs name) ≡ Some one → with_kept rs name kept ≡ set rs (place_in rs name) (record one { kept = kept }))
     → cond b (record r { kept = kept } ∷ rs) (r ∷ with_kept rs name kept) ≡ set (r ∷ rs) (cond b 0 (suc (place_in rs name))) (record one { kept = kept })
-changed_front true r rs name kept one there behind = ap (λ x. record x { kept = kept } ∷ rs) (some-injective r one there)
+changed_front true r rs name kept one there behind = ap (λ x. record x { kept = kept } ∷ rs) (same_Some r one there)
 changed_front false r rs name kept one there behind = ap (λ xs. r ∷ xs) (behind there)
 
 pub changes_at : {D : Type 0} (rs : List (Named D)) (name : Bytes) (kept : Kept D) (one : Named D)
@@ -39,7 +39,7 @@ changes_at (r ∷ rs) name kept one there = changed_front (bytes_eq r.name name)
 same_front : {D : Type 0} (b : Bool) (r : Named D) (rs : List (Named D)) (name : Bytes) (kept : Kept D)
     → option_map (λ x. x.kept) (cond b (Some r) (find (λ x. bytes_eq x.name name) rs)) ≡ Some kept → (kept_of rs name ≡ Some kept → with_kept rs name kept ≡ rs)
     → cond b (record r { kept = kept } ∷ rs) (r ∷ with_kept rs name kept) ≡ r ∷ rs
-same_front true r rs name kept is behind = ap (λ k. record r { kept = k } ∷ rs) (sym (some-injective r.kept kept is))
+same_front true r rs name kept is behind = ap (λ k. record r { kept = k } ∷ rs) (sym (same_Some r.kept kept is))
 same_front false r rs name kept is behind = ap (λ xs. r ∷ xs) (behind is)
 
 pub unchanged : {D : Type 0} (rs : List (Named D)) (name : Bytes) (kept : Kept D) → kept_of rs name ≡ Some kept → with_kept rs name kept ≡ rs

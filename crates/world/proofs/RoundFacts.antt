@@ -1,5 +1,5 @@
 -- The rounds of a session: each next request asks from behind the commands that were met.
-use Rattle.std.proofs.Common.{◌≡◌, ◌⊎◌, ℕ, ◌+◌, ◌<◌, ◌≤◌, ◌^◌, inl, inr, Bool, true, false, if◌then◌else◌, IsTrue, List, [], ◌∷◌, ◌++◌, length, Option, Some, None, Result, Ok, Err, refl, sym, ap, subst, ◌∙◌, arith, length-append}
+use Rattle.std.proofs.Common.{◌≡◌, ◌⊎◌, ℕ, ◌+◌, ◌<◌, ◌≤◌, ◌^◌, inl, inr, Bool, true, false, if◌then◌else◌, List, [], ◌∷◌, ◌++◌, length, Option, Some, None, Result, Ok, Err, refl, sym, ap, subst, ◌∙◌, arith, length-append}
 use Rattle.std.specs.List.{list_any}
 use Rattle.std.specs.Str.{bytes_eq}
 use Rattle.accept.specs.Admission.{IsAdmission}
@@ -22,9 +22,10 @@ use Rattle.sync_codec.specs.declared.response.Response.{Response}
 use Rattle.sync_peer.specs.Messages.{next_of, request_of}
 use Rattle.world.specs.Sessions.{Goes, IsRound, Session, Sum, no_sum, with_taken}
 use Rattle.world.specs.Sessions.Goes.{begins, more}
-use Rattle.world.specs.Sessions.Session.{no_answer, no_next, no_take}
-use Rattle.world.specs.Worlds.{Changes, Named, Of}
+use Rattle.world.specs.Sessions.Session.{done, no_answer, no_next, no_request, no_take}
+use Rattle.world.specs.Worlds.{Changes, Named, Of, with_kept}
 use Rattle.world.proofs.KeepFacts.{take_keeps}
+use Rattle.world.proofs.PlaceFacts.{unchanged}
 use Rattle.world.specs.working.Places.{is_named}
 use Rattle.world.specs.working.Rounds.{GoesRound}
 
@@ -135,7 +136,7 @@ further sum request bytes next taken asked answered again requests responses beh
     let same_response : again ≡ answered = responses.one_value again answered bytes reads answers in
     let same_taken : meets.response ≡ again = responses.one_value meets.response again bytes meets.spelled reads in
     let follows = next_follows again next are in
-    let some : 0 < length again.commands = reads.in_form.some (subst IsTrue (sym follows.0) tt) in
+    let some : 0 < length again.commands = reads.in_form.some follows.0 in
     let met : met_in taken ≡ length again.commands = meets.met ∙ ap (λ (r : Response). length r.commands) same_taken in
     let start : again.from ≡ met_commands sum = ap (λ (r : Response). r.from) same_response ∙ from ∙ sym (ap (λ (r : Request). r.from) same_request) ∙ behind.from in
     let met_then : met_commands (with_taken sum taken) ≡ met_commands sum + met_in taken = met_more sum taken in
@@ -230,7 +231,60 @@ module _ {D : Type 0} (good : List ℕ → List ℕ → List ℕ → Bool) (a b 
       }
 
   -- where a round is refused, the session ends
-  pub refused_round : (first old new : List (Named D)) (request : Bytes) (sum : Sum) (why : Refusal) → Goes good a b first old request sum → GoesRound good a b old request (Err why) new → Session good a b first (Err why) new
-  refused_round first old new request sum why goes (inl (same, refused)) = subst (Session good a b first (Err why)) (sym same) (no_answer goes refused)
-  refused_round first old new request sum why goes (inr (inl (same, (response, answered, refused)))) = subst (Session good a b first (Err why)) (sym same) (no_take goes answered refused)
-  refused_round first old new request sum why goes (inr (inr (taken, round))) = no_next goes round
+  pub refused_round : (first old new : List (Named D)) (request bytes : Bytes) (sum : Sum) (why : Refusal) → HasCome first old request sum → bytes ≡ request → GoesRound good a b old bytes (Err why) new → Session good a b first (Err why) new
+  refused_round first old new request bytes sum why come same went =
+      ends come.goes (subst (λ asked. GoesRound good a b old asked (Err why) new) same went)
+    where
+      ends : Goes good a b first old request sum → GoesRound good a b old request (Err why) new → Session good a b first (Err why) new
+      ends goes (inl (stays, refused)) = subst (Session good a b first (Err why)) (sym stays) (no_answer goes refused)
+      ends goes (inr (inl (stays, (response, answered, refused)))) = subst (Session good a b first (Err why)) (sym stays) (no_take goes answered refused)
+      ends goes (inr (inr (taken, round))) = no_next goes round
+
+  -- ---- a round, by its events
+
+  pub unanswered : (old rs : List (Named D)) (request : Bytes) (why : Refusal) → rs ≡ old → Of rs b (λ kept. Answers kept request (Err why)) → GoesRound good a b old request (Err why) old
+  unanswered old rs request why same refused = inl (refl, subst (λ l. Of l b (λ kept. Answers kept request (Err why))) same refused)
+
+  pub untaken : (old rs new : List (Named D)) (request response bytes : Bytes) (why : Refusal) → rs ≡ old → Of rs b (λ kept. Answers kept request (Ok response)) → bytes ≡ response →
+      Changes old a (λ before after. TakesIn before good bytes (Err why) after) new → GoesRound good a b old request (Err why) new
+  untaken old rs new request response bytes why same answered spelled (before, after, is, step, set) =
+      inr (inl (
+        set ∙ ap (with_kept old a) step.0 ∙ unchanged old a before is,
+        (response, subst (λ l. Of l b (λ kept. Answers kept request (Ok response))) same answered, (before, is, subst (λ m. TakesIn before good m (Err why) before) spelled (refl, step.1))),
+      ))
+
+  pub whole : (old rs new us : List (Named D)) (request response bytes : Bytes) (taken : Taken) (next : Result (Option Bytes) Refusal) → rs ≡ old → Of rs b (λ kept. Answers kept request (Ok response)) → bytes ≡ response →
+      Changes old a (λ before after. TakesIn before good bytes (Ok taken) after) new → us ≡ new → Of us a (λ kept. AsksNext kept bytes next) → IsRound good a b old request taken next new
+  whole old rs new us request response bytes taken next same answered spelled takes stays asks = record {
+    response = response;
+    answer = subst (λ l. Of l b (λ kept. Answers kept request (Ok response))) same answered;
+    take = subst (λ m. Changes old a (λ before after. TakesIn before good m (Ok taken) after) new) spelled takes;
+    asks_next = subst (λ m. Of new a (λ kept. AsksNext kept m next)) spelled (subst (λ l. Of l a (λ kept. AsksNext kept bytes next)) stays asks);
+  }
+
+  -- ---- the loop of rounds
+
+  pub starts : (first rs : List (Named D)) (request : Bytes) (sum : Sum) → rs ≡ first → Of rs a (λ kept. Asks kept (Ok request)) → sum ≡ no_sum → is_named first a ≡ true → is_named first b ≡ true → HasCome first first request sum
+  starts first rs request sum same asks none a_there b_there =
+      subst (HasCome first first request) (sym none) (begun first request (subst (λ l. Of l a (λ kept. Asks kept (Ok request))) same asks) a_there b_there)
+
+  pub unasked : (first rs : List (Named D)) (why : Refusal) → rs ≡ first → Of rs a (λ kept. Asks kept (Err why)) → Session good a b first (Err why) first
+  unasked first rs why same refused = no_request (subst (λ l. Of l a (λ kept. Asks kept (Err why))) same refused)
+
+  pub round_of : (old new : List (Named D)) (request bytes : Bytes) (taken : Taken) (next : Result (Option Bytes) Refusal) → bytes ≡ request → IsRound good a b old bytes taken next new → IsRound good a b old request taken next new
+  round_of old new request bytes taken next same round = subst (λ asked. IsRound good a b old asked taken next new) same round
+
+  pub small_sums : (first old new : List (Named D)) (request bytes : Bytes) (sum : Sum) (taken : Taken) (next : Result (Option Bytes) Refusal) → HasCome first old request sum → bytes ≡ request → IsRound good a b old bytes taken next new → IsSmall sum taken
+  small_sums first old new request bytes sum taken next come same round = small_round first old new request sum taken next come (round_of old new request bytes taken next same round)
+
+  pub goes_on : (first old new : List (Named D)) (request bytes next : Bytes) (sum sums : Sum) (taken : Taken) (found : Option Bytes) → IsUnambiguous IsRequest → IsUnambiguous IsResponse → HasCome first old request sum → bytes ≡ request →
+      IsRound good a b old bytes taken (Ok found) new → found ≡ Some next → sums ≡ with_taken sum taken → GoesOn first new next sum sums
+  goes_on first old new request bytes next sum sums taken found requests responses come same round is adds =
+      let whole_round : IsRound good a b old request taken (Ok (Some next)) new = subst (λ n. IsRound good a b old request taken (Ok n) new) is (round_of old new request bytes taken (Ok found) same round) in
+      subst (GoesOn first new next sum) (sym adds) (round_on first old new request next sum taken requests responses come whole_round)
+
+  pub finishes : (first old new : List (Named D)) (request bytes : Bytes) (sum sums : Sum) (taken : Taken) (found : Option Bytes) → HasCome first old request sum → bytes ≡ request →
+      IsRound good a b old bytes taken (Ok found) new → found ≡ None → sums ≡ with_taken sum taken → Session good a b first (Ok sums) new
+  finishes first old new request bytes sum sums taken found come same round is adds =
+      let whole_round : IsRound good a b old request taken (Ok None) new = subst (λ n. IsRound good a b old request taken (Ok n) new) is (round_of old new request bytes taken (Ok found) same round) in
+      subst (λ s. Session good a b first (Ok s) new) (sym adds) (done come.goes whole_round)

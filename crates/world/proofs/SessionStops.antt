@@ -18,6 +18,7 @@ use Rattle.world.specs.declared.stop.RunStop.{RunStop}
 use Rattle.world.specs.declared.stop.RunStop.TheVariants as stop
 use Rattle.world.specs.working.Rounds.{RunsSession, Syncs}
 use Rattle.world.specs.working.Words.{IsStopped, Words}
+use Rattle.world.proofs.RoundFacts.{HasCome, round_of}
 
 -- ---- no refusal of a session stops a run but want of memory
 
@@ -121,3 +122,8 @@ module _ {D : Type 0} (tags : Tags) (a b : Bytes) where
   syncs old new reply (Ok text) (inr (lack, came)) words = absurd (no_text a b text reply lack words)
   syncs old new reply (Err s) (inl session) words = left_by old new reply session
   syncs old new reply (Err s) (inr (lack, came)) words = inr (inr came)
+
+  -- so far a session came, with one round more
+  pub came_on : (first old new : List (Named D)) (request bytes : Bytes) (sum : Sum) (taken : Taken) (next : Result (Option Bytes) Refusal) → HasCome tags.good a b first old request sum → bytes ≡ request →
+      IsRound tags.good a b old bytes taken next new → Came tags a b first new
+  came_on first old new request bytes sum taken next come same round = inr (old, request, sum, taken, next, come.goes, round_of tags.good a b old new request bytes taken next same round)

@@ -37,15 +37,18 @@ fn round<R: Runner, G: Graph, F: FactBase, D: Disk, E: Envelope, L: Ledger>(
     requires b { is_named replicas.old.items b.now ≡ true }
     ensures round { GoesRound E.good a.now b.now replicas.old.items request.now result replicas.new.items }
 {
-    let response = match answer(alloc, replicas.as_slice(), b, request) {
+    let before = replicas.as_slice();
+    let response = match answer(alloc, before, b, request) {
         Ok(response) => response,
         Err(why) => return Err(why),
     };
-    let taken = match take(alloc, replicas, a, response.as_slice(), env, steps) {
+    let bytes = response.as_slice();
+    let taken = match take(alloc, replicas, a, bytes, env, steps) {
         Ok(taken) => taken,
         Err(why) => return Err(why),
     };
-    match next(alloc, replicas.as_slice(), a, response.as_slice()) {
+    let behind = replicas.as_slice();
+    match next(alloc, behind, a, bytes) {
         Ok(next) => Ok((taken, next)),
         Err(why) => Err(why),
     }
@@ -67,13 +70,15 @@ fn session<R: Runner, G: Graph, F: FactBase, D: Disk, E: Envelope, L: Ledger>(
 {
     requests_are_unambiguous();
     responses_are_unambiguous();
-    let mut request = match ask(alloc, replicas.as_slice(), a) {
+    let before = replicas.as_slice();
+    let mut request = match ask(alloc, before, a) {
         Ok(request) => request,
         Err(why) => return Err(why),
     };
     let mut sum = Sum::new(alloc);
     'rounds: loop {
-        let (taken, next) = match round(alloc, replicas, a, b, request.as_slice(), env, steps) {
+        let bytes = request.as_slice();
+        let (taken, next) = match round(alloc, replicas, a, b, bytes, env, steps) {
             Ok(both) => both,
             Err(why) => return Err(why),
         };
