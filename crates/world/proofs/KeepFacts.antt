@@ -62,25 +62,25 @@ module _ {D : Type 0} where
       → Changes old name (λ before after. TakesIn before good bytes result after) new → Keeps old new
   take_keeps good bytes result name old new changes =
       changes_keep old name (λ before after. TakesIn before good bytes result after) new
-        (λ before after step. step_disk (IsTakeOf before good bytes) _ before result after (λ taken is. took before good bytes taken after is) step) changes
+      (λ before after step. step_disk (IsTakeOf before good bytes) _ before result after (λ taken is. took before good bytes taken after is) step) changes
 
   pub init_keeps : (good : List ℕ → List ℕ → List ℕ → Bool) (told : Option (List ℕ → List ℕ → List ℕ)) (action : Action) (verb name : Bytes) (old : List (Named D)) (text : Bytes) (new : List (Named D))
       → RunsAction verb name (λ kept. Begins kept good told action) old text new → Keeps old new
   init_keeps good told action verb name old text new (result, ticks, changes, said) =
       changes_keep old name (λ before after. Begins before good told action ticks.0 ticks.1 result after) new
-        (λ before after step. step_disk _ _ before result after (λ counts is. acted before good told action ticks.0 ticks.1 counts after is.1) step) changes
+      (λ before after step. step_disk _ _ before result after (λ counts is. acted before good told action ticks.0 ticks.1 counts after is.1) step) changes
 
   pub act_keeps : (good : List ℕ → List ℕ → List ℕ → Bool) (told : Option (List ℕ → List ℕ → List ℕ)) (action : Action) (verb name : Bytes) (old : List (Named D)) (text : Bytes) (new : List (Named D))
       → RunsAction verb name (λ kept. ActsIn kept good told action) old text new → Keeps old new
   act_keeps good told action verb name old text new (result, ticks, changes, said) =
       changes_keep old name (λ before after. ActsIn before good told action ticks.0 ticks.1 result after) new
-        (λ before after step. step_disk _ _ before result after (λ counts is. acted before good told action ticks.0 ticks.1 counts after is) step) changes
+      (λ before after step. step_disk _ _ before result after (λ counts is. acted before good told action ticks.0 ticks.1 counts after is) step) changes
 
   joins_keep : (a : Bytes) (ready : Result (List ℕ) Refusal) (old : List (Named D)) (text : Bytes) (new : List (Named D)) → JoinsGraph a ready old text new → Keeps old new
   joins_keep a (Err why) old text new (said, same) = keeps_same old new same
   joins_keep a (Ok id) old text new (result, changes, said) =
       changes_keep old a (λ before after. Joins before id result after) new
-        (λ before after step. step_disk _ _ before result after (λ reply is. ap (λ k. k.disk) is.1) step) changes
+      (λ before after step. step_disk _ _ before result after (λ reply is. ap (λ k. k.disk) is.1) step) changes
 
   pub join_keeps : (a b : Bytes) (old : List (Named D)) (text : Bytes) (new : List (Named D)) → RunsJoin a b old text new → Keeps old new
   join_keeps a b old text new (own, is, (other, there, joins)) = joins_keep a _ old text new joins

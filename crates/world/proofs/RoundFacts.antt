@@ -200,11 +200,11 @@ module _ {D : Type 0} (good : List ℕ → List ℕ → List ℕ → Bool) (a b 
       let answered = answers.2.2.0 in
       let asks_next = round.asks_next in
       further sum request round.response next taken asked answered asks_next.2.0 requests responses behind
-        (read_form IsRequest (λ m. m.graph) request answers.0.held.graph_id asked answers.2.1)
-        (ap (λ (r : Response). r.from) answers.2.2.1.same_response) answers.2.2.2
-        (meets_of old new request taken (Ok (Some next)) round)
-        (read_form IsResponse (λ m. m.graph) round.response asks_next.0.held.graph_id asks_next.2.0 asks_next.2.1)
-        asks_next.2.2
+      (read_form IsRequest (λ m. m.graph) request answers.0.held.graph_id asked answers.2.1)
+      (ap (λ (r : Response). r.from) answers.2.2.1.same_response) answers.2.2.2
+      (meets_of old new request taken (Ok (Some next)) round)
+      (read_form IsResponse (λ m. m.graph) round.response asks_next.0.held.graph_id asks_next.2.0 asks_next.2.1)
+      asks_next.2.2
 
   names_stay : (old new : List (Named D)) (request : Bytes) (taken : Taken) (next : Result (Option Bytes) Refusal) (x : Bytes) → IsRound good a b old request taken next new → is_named old x ≡ true → is_named new x ≡ true
   names_stay old new request taken next x round there = named_behind good round.response (Ok taken) a x old new round.take there

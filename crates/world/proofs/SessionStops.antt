@@ -82,11 +82,6 @@ stop_of reply s plain (inl is) = is
 stop_of (Ok sum) s plain (inr is) = absurd is
 stop_of (Err why) s plain (inr is) = plain_stop why s plain is
 
--- the words of a refusal are those of any reply that it is
-pub refused_words : (S : Type 0) (why : Refusal) (line : Option Bytes) (result : Result Bytes RunStop) → Words {T = Unit {0}} (Err why) line result → Words {T = S} (Err why) line result
-refused_words S why line (Ok text) words = words
-refused_words S why line (Err s) words = words
-
 module _ {D : Type 0} (good : List ℕ → List ℕ → List ℕ → Bool) (a b : Bytes) where
   session_plain : (first new : List (Named D)) (reply : Result Sum Refusal) → Session good a b first reply new → IfErr reply (λ why. is_plain why ≡ true)
   session_plain first new reply (no_request {why = why} (kept, is, asks)) = ask_plain kept why asks

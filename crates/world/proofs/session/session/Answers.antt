@@ -13,7 +13,7 @@ rounds-init g c = starts g.E.Envelope.good c.args.a.now c.args.b.now c.args.repl
 pub returns-in-Err-round : goal.returns-in-Err-round
 returns-in-Err-round g c = record {
   session = inl (refused_round g.E.Envelope.good c.args.a.now c.args.b.now c.args.replicas.now.items c.rounds.replicas.items c.round.new.replicas.items c.rounds.request c.as_slice-bytes.result.now c.rounds.sum c.in-Err-round.why
-    c.rounds.invariant c.as_slice-bytes.ensures c.in-Err-round.ensures.round);
+      c.rounds.invariant c.as_slice-bytes.ensures c.in-Err-round.ensures.round);
 }
 
 pub add-requires-clause-added : goal.add-requires-clause-added
@@ -31,20 +31,20 @@ returns-in_err-add g c =
       session = inr (
         p.1 ∙ ap Err p.2,
         came_on (record { good = g.E.Envelope.good; told = g.E.Envelope.tag_of }) c.args.a.now c.args.b.now c.args.replicas.now.items c.rounds.replicas.items c.round.new.replicas.items c.rounds.request c.as_slice-bytes.result.now c.rounds.sum
-          c.in-Ok-round.both.0 (Ok c.in-Ok-round.both.1) c.rounds.invariant c.as_slice-bytes.ensures c.in-Ok-round.ensures.round,
+            c.in-Ok-round.both.0 (Ok c.in-Ok-round.both.1) c.rounds.invariant c.as_slice-bytes.ensures c.in-Ok-round.ensures.round,
       );
     }
 
 pub rounds-smaller : goal.rounds-smaller
 rounds-smaller g c =
     let on = goes_on g.E.Envelope.good c.args.a.now c.args.b.now c.args.replicas.now.items c.rounds.replicas.items c.round.new.replicas.items c.rounds.request c.as_slice-bytes.result.now c.in-Some.next c.rounds.sum c.add.new.self c.in-Ok-round.both.0
-        c.in-Ok-round.both.1 c.requests_are_unambiguous.ensures c.responses_are_unambiguous.ensures c.rounds.invariant c.as_slice-bytes.ensures c.in-Ok-round.ensures.round c.in-Some.is c.in_ok-add.ensures in
+    c.in-Ok-round.both.1 c.requests_are_unambiguous.ensures c.responses_are_unambiguous.ensures c.rounds.invariant c.as_slice-bytes.ensures c.in-Ok-round.ensures.round c.in-Some.is c.in_ok-add.ensures in
     omega (arith, on.meets_more, on.most)
 
 pub rounds-preserved : goal.rounds-preserved
 rounds-preserved g c =
     let on = goes_on g.E.Envelope.good c.args.a.now c.args.b.now c.args.replicas.now.items c.rounds.replicas.items c.round.new.replicas.items c.rounds.request c.as_slice-bytes.result.now c.in-Some.next c.rounds.sum c.add.new.self c.in-Ok-round.both.0
-        c.in-Ok-round.both.1 c.requests_are_unambiguous.ensures c.responses_are_unambiguous.ensures c.rounds.invariant c.as_slice-bytes.ensures c.in-Ok-round.ensures.round c.in-Some.is c.in_ok-add.ensures in
+    c.in-Ok-round.both.1 c.requests_are_unambiguous.ensures c.responses_are_unambiguous.ensures c.rounds.invariant c.as_slice-bytes.ensures c.in-Ok-round.ensures.round c.in-Some.is c.in_ok-add.ensures in
     on.come
 
 pub returns-in-None : goal.returns-in-None
