@@ -27,7 +27,7 @@ changed_front : {D : Type 0} (b : Bool) (r : Named D) (rs : List (Named D)) (nam
     → slice_get (r ∷ rs) (cond b 0 (suc (place_in rs name))) ≡ Some one
     → (slice_get rs (place_in rs name) ≡ Some one → with_kept rs name kept ≡ set rs (place_in rs name) (record one { kept = kept }))
     → cond b (record r { kept = kept } ∷ rs) (r ∷ with_kept rs name kept) ≡ set (r ∷ rs) (cond b 0 (suc (place_in rs name))) (record one { kept = kept })
-changed_front true r rs name kept one there behind = ap (λ (x : Named D). record x { kept = kept } ∷ rs) (same_Some r one there)
+changed_front {D = D} true r rs name kept one there behind = ap (λ (x : Named D). record x { kept = kept } ∷ rs) (same_Some r one there)
 changed_front false r rs name kept one there behind = ap (λ xs. r ∷ xs) (behind there)
 
 pub changes_at : {D : Type 0} (rs : List (Named D)) (name : Bytes) (kept : Kept D) (one : Named D)
