@@ -47,6 +47,10 @@ graph_to_join (Some own) other = Err refusal.HasGraph
 graph_to_join None None = Err refusal.NoGraph
 graph_to_join None (Some id) = Ok id
 
+-- `inject HEX`: the message is made of the bytes as they are.
+abbrev pub SaysInject : Bytes → ℕ → Bytes → Option Bytes → Type 0
+SaysInject bytes number text made = (text ≡ message_text (codes "inject") [] (Number number)) × (made ≡ Some bytes)
+
 module _ {D : Type 0} where
   -- The facts, and the effects, of the run of the braid of the replica's own commands.
   abbrev pub ShowsFacts : Bytes → Kept D → Bytes → Type 0
@@ -91,10 +95,6 @@ module _ {D : Type 0} where
   SaysAnswer replicas a None number text made = (text ≡ no_message_text (codes "answer") (a ∷ [])) × (made ≡ None)
   SaysAnswer replicas a (Some message) number text made =
       (result : Result Bytes Refusal) × Of replicas a (λ kept. Answers kept message result) × IsAnswerLine a number result text × (made ≡ message_of result)
-
-  -- `inject HEX`: the message is made of the bytes as they are.
-  abbrev pub SaysInject : Bytes → ℕ → Bytes → Option Bytes → Type 0
-  SaysInject bytes number text made = (text ≡ message_text (codes "inject") [] (Number number)) × (made ≡ Some bytes)
 
   -- A line that has a number and changes no replica. Its message stands behind the others, also where it is none.
   abbrev pub Makes : (ℕ → Bytes → Option Bytes → Type 0) → Site D → Bytes → Site D → Type 0

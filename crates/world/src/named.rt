@@ -19,9 +19,14 @@ pub struct Named<R: Runner, G: Graph, F: FactBase, D: Disk> {
 }
 
 impl<R: Runner, G: Graph, F: FactBase, D: Disk> Model for Named<R, G, F, D> {
+    ghost use Rattle.std.specs.Coded.{codes};
+    ghost use Rattle.base_bytes.specs.contracts.value.Value as value;
+    ghost use Rattle.policy_ast.specs.contracts.policy.PlacedItem as placed_item;
     ghost use Rattle.world.specs.Worlds.{Named};
 
     ghost Value = { Named D };
+
+    ghost coded = { Prim.hlevel (codes, value.the_row.coded, placed_item.the_row.coded) };
 
     ghost view = { λ n. record { name = n.name; kept = n.replica } };
 }

@@ -1,12 +1,12 @@
 //! The text of a line, by what its replica replies.
 
-ghost use Rattle.std.specs.Prelude.{◌≡◌, ◌++◌, Err, IfOk, Ok, map};
+ghost use Rattle.std.specs.Prelude.{◌≡◌, ◌++◌, IfOk, Ok, Some, map};
 ghost use Rattle.script_texts.specs.Replies.{refused_commands_text};
 ghost use Rattle.sync_codec.specs.Messages.{IsResponse};
 ghost use Rattle.sync_codec.specs.declared.response.Response.{Response as TheResponse};
 ghost use Rattle.world.specs.Reasons.{shown_refusals};
 ghost use Rattle.world.specs.Replies.{IsAnswerLine, asked_line, joined_line, message_of, next_line, next_message_of, published_line, refused_line, restarted_line, taken_line};
-ghost use Rattle.world.specs.working.Words.{AnswerWords, Words, WordsAndMessage};
+ghost use Rattle.world.specs.working.Words.{AnswerWords, Words, WordsAndMessage, WordsBy};
 
 use crate::reasons::{command_refusal, line_refusal};
 use crate::said::Said;
@@ -28,7 +28,7 @@ pub fn refused_line(
     names: &[&str],
     why: Refusal,
 ) -> Result<Bytes, RunStop>
-    ensures { Words (Err why) (refused_line verb.now (map (λ name. name.now) names.now) why) result }
+    ensures { WordsBy (Some why) (refused_line verb.now (map (λ name. name.now) names.now) why) result }
 {
     let why = match line_refusal(why) {
         Ok(why) => why,

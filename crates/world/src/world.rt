@@ -33,9 +33,14 @@ pub struct World<R: Runner, G: Graph, F: FactBase, D: Disk> {
 
 impl<R: Runner, G: Graph, F: FactBase, D: Disk> Model for World<R, G, F, D> {
     ghost use Rattle.std.specs.Prelude.{◌≤◌, ◌+◌, length, vec_capacity};
+    ghost use Rattle.std.specs.Coded.{codes};
+    ghost use Rattle.base_bytes.specs.contracts.value.Value as value;
+    ghost use Rattle.policy_ast.specs.contracts.policy.PlacedItem as placed_item;
     ghost use Rattle.world.specs.Worlds.{Site};
 
     ghost Value = { Site D };
+
+    ghost coded = { Prim.hlevel (codes, value.the_row.coded, placed_item.the_row.coded) };
 
     ghost view = { λ w. record { replicas = w.replicas.items; messages = w.messages.items; spare = w.spare.items } };
 

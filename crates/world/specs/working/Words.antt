@@ -1,5 +1,5 @@
 -- What the functions that put replies into words say.
-use Rattle.std.specs.Prelude.{◌≡◌, ◌⊎◌, ℕ, List, Option, Some, Result, Ok, Err}
+use Rattle.std.specs.Prelude.{◌≡◌, ◌⊎◌, ℕ, List, Option, Some, None, Result, Ok, Err}
 use Rattle.replica.specs.declared.refusal.Refusal.{Refusal}
 use Rattle.script_texts.specs.Bytes.{Bytes}
 use Rattle.world.specs.Replies.{IsAnswerLine}
@@ -8,19 +8,30 @@ use Rattle.world.specs.declared.said.Said.{Said}
 use Rattle.world.specs.declared.stop.RunStop.{RunStop}
 use Rattle.world.specs.declared.stop.RunStop.TheVariants as stop
 
--- A refusal stops the run; a reply doesn't.
-abbrev pub StopsBy : {T : Type 0} → Result T Refusal → RunStop → Type 0
-StopsBy (Ok reply) why = ⊥
-StopsBy (Err refused) why = IsStopBy refused why
+-- The refusal of a reply.
+abbrev pub refusal_of : {T : Type 0} → Result T Refusal → Option Refusal
+refusal_of (Ok reply) = None
+refusal_of (Err why) = Some why
 
--- A line is stopped by its reply, or for want of memory.
+-- A refusal stops the run; a reply doesn't.
+abbrev pub StopsBy : Option Refusal → RunStop → Type 0
+StopsBy None why = ⊥
+StopsBy (Some refused) why = IsStopBy refused why
+
+-- A line is stopped by its refusal, or for want of memory.
+abbrev pub IsStoppedBy : Option Refusal → RunStop → Type 0
+IsStoppedBy refused why = (why ≡ stop.NoMemory) ⊎ StopsBy refused why
+
 abbrev pub IsStopped : {T : Type 0} → Result T Refusal → RunStop → Type 0
-IsStopped reply why = (why ≡ stop.NoMemory) ⊎ StopsBy reply why
+IsStopped reply why = IsStoppedBy (refusal_of reply) why
 
 -- A reply is put into these words, or stops the run.
+abbrev pub WordsBy : Option Refusal → Option Bytes → Result Bytes RunStop → Type 0
+WordsBy refused line (Ok text) = line ≡ Some text
+WordsBy refused line (Err why) = IsStoppedBy refused why
+
 abbrev pub Words : {T : Type 0} → Result T Refusal → Option Bytes → Result Bytes RunStop → Type 0
-Words reply line (Ok text) = line ≡ Some text
-Words reply line (Err why) = IsStopped reply why
+Words reply line result = WordsBy (refusal_of reply) line result
 
 -- The same, with the message that the line makes or none.
 abbrev pub WordsAndMessage : {T : Type 0} → Result T Refusal → Option Bytes → Option Bytes → Result Said RunStop → Type 0
