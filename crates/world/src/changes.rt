@@ -24,6 +24,7 @@ use std::alloc::Global;
 use std::sync::ledger::Ledger;
 
 /// `init A f(args)`
+#[tactic(auto, using(crate::proofs::ChangeFacts::init_changes, crate::proofs::CauseFacts::init_caused))]
 pub fn init_line<R: Runner, G: Graph, F: FactBase, D: Disk, E: Envelope, L: Ledger>(
     alloc: Global,
     replicas: &mut Vec<Named<R, G, F, D>>,
@@ -43,6 +44,7 @@ pub fn init_line<R: Runner, G: Graph, F: FactBase, D: Disk, E: Envelope, L: Ledg
 }
 
 /// `act A f(args)`
+#[tactic(auto, using(crate::proofs::ChangeFacts::act_changes, crate::proofs::CauseFacts::act_caused))]
 pub fn act_line<R: Runner, G: Graph, F: FactBase, D: Disk, E: Envelope, L: Ledger>(
     alloc: Global,
     replicas: &mut Vec<Named<R, G, F, D>>,
@@ -62,6 +64,7 @@ pub fn act_line<R: Runner, G: Graph, F: FactBase, D: Disk, E: Envelope, L: Ledge
 }
 
 /// `join A B`: A is to have no graph yet, and B is to have one.
+#[tactic(auto, using(crate::proofs::ChangeFacts::join_changes, crate::proofs::CauseFacts::joins_mild, crate::proofs::CauseFacts::memory_alone))]
 pub fn join_line<R: Runner, G: Graph, F: FactBase, D: Disk>(
     alloc: Global,
     replicas: &mut Vec<Named<R, G, F, D>>,
@@ -84,6 +87,7 @@ pub fn join_line<R: Runner, G: Graph, F: FactBase, D: Disk>(
 }
 
 /// `take A n`, where this message was made, or none.
+#[tactic(auto, using(crate::proofs::ChangeFacts::take_changes, crate::proofs::CauseFacts::takes_mild, crate::proofs::CauseFacts::memory_alone))]
 pub fn take_line<R: Runner, G: Graph, F: FactBase, D: Disk, E: Envelope, L: Ledger>(
     alloc: Global,
     replicas: &mut Vec<Named<R, G, F, D>>,

@@ -46,6 +46,7 @@ fn nothing_said(alloc: Global, verb: &str, name: &Text) -> Result<Said, RunStop>
 }
 
 /// `ask A`, as the line of this number.
+#[tactic(auto, using(crate::proofs::ChangeFacts::ask_says))]
 pub fn ask_line<R: Runner, G: Graph, F: FactBase, D: Disk>(
     alloc: Global,
     replicas: &[Named<R, G, F, D>],
@@ -60,6 +61,7 @@ pub fn ask_line<R: Runner, G: Graph, F: FactBase, D: Disk>(
 }
 
 /// `next A n`, as the line of this number.
+#[tactic(auto, using(crate::proofs::ChangeFacts::next_says))]
 pub fn next_request_line<R: Runner, G: Graph, F: FactBase, D: Disk>(
     alloc: Global,
     replicas: &[Named<R, G, F, D>],
@@ -78,6 +80,7 @@ pub fn next_request_line<R: Runner, G: Graph, F: FactBase, D: Disk>(
 }
 
 /// `answer A n`, as the line of this number.
+#[tactic(auto, using(crate::proofs::ChangeFacts::answer_says, crate::proofs::ChangeFacts::answer_spelled))]
 pub fn response_line<R: Runner, G: Graph, F: FactBase, D: Disk>(
     alloc: Global,
     replicas: &[Named<R, G, F, D>],

@@ -1,0 +1,5 @@
+use Rattle.std.proofs.Common.{rules, ◌≡◌, Some}
+use Rattle.world.proofs.showing.replica_line.Goals as goal
+
+pub returns : goal.returns
+returns g c = ?
