@@ -1,0 +1,9 @@
+-- Lemmas that the proofs of this crate share.
+mod PlaceFacts
+mod CauseFacts
+mod KeepFacts
+mod LineFacts
+mod ChangeFacts
+mod OpenFacts
+mod RoundFacts
+mod SessionStops

@@ -1,0 +1,5 @@
+use Rattle.std.proofs.Common.{rules, ◌≡◌, Some}
+use Rattle.world.proofs.events.graph_of.Goals as goal
+
+pub returns : goal.returns
+returns g c = record { graph = (c.replica_of.result.now, c.replica_of.ensures, (cc)) }

@@ -1,0 +1,9 @@
+use Rattle.std.proofs.Common.{◌-◌}
+use Rattle.world.proofs.RoundFacts.{HasCome, met_commands}
+use Rattle.world.proofs.session.session.Given as goal
+
+abbrev pub invariant-rounds : goal.invariant-rounds
+invariant-rounds g l = HasCome g.E.Envelope.good l.a l.b l.initial.replicas.items l.replicas.items l.request l.sum
+
+abbrev pub decreases-rounds : goal.decreases-rounds
+decreases-rounds g l = 65537 - met_commands l.sum

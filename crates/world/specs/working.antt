@@ -1,0 +1,7 @@
+-- What serves the contracts of private functions. Nobody has to read it who reads the promises.
+pub mod Places
+pub mod Words
+pub mod Kinds
+pub mod Running
+pub mod Rounds
+pub mod Opening

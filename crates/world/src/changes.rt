@@ -1,0 +1,123 @@
+//! The lines that are one event of a replica which changes it.
+
+ghost use Rattle.std.specs.Prelude.{◌≡◌, ◌≤◌, IfErr, codes, false, true};
+ghost use Rattle.std.specs.Option.{option_copied};
+ghost use Rattle.replica.specs.Calls.{ActsIn, Begins};
+ghost use Rattle.world.specs.Lines.{RunsAction, RunsJoin, RunsRestart, RunsTake, action_of};
+ghost use Rattle.world.specs.Stops.{HasCause};
+ghost use Rattle.world.specs.declared.stop.RunStop.TheVariants as stop;
+ghost use Rattle.world.specs.working.Places.{is_named};
+ghost use Rattle.world.specs.working.Running.{Changing, NoneOf};
+
+use crate::events::{act, graph_of, init, join, restart, take};
+use crate::named::Named;
+use crate::replies::{joined_line, published_line, refused_line, restarted_line, taken_line};
+use crate::stop::RunStop;
+use base_bytes::{Arg, Bytes, Steps, Text};
+use command::Graph;
+use fact_store::FactBase;
+use outside::{Disk, Envelope};
+use policy_meaning::Runner;
+use replica::Refusal;
+use script_texts::no_message_text;
+use std::alloc::Global;
+use std::sync::ledger::Ledger;
+
+/// `init A f(args)`
+#[tactic(auto, using(crate::proofs::ChangeFacts::init_changes, crate::proofs::CauseFacts::init_caused))]
+pub fn init_line<R: Runner, G: Graph, F: FactBase, D: Disk, E: Envelope, L: Ledger>(
+    alloc: Global,
+    replicas: &mut Vec<Named<R, G, F, D>>,
+    name: &Text,
+    action: &Text,
+    args: &[Arg],
+    env: &mut E,
+    steps: &mut Steps<L>,
+) -> Result<Bytes, RunStop>
+    requires there { is_named replicas.old.items name.now ≡ true }
+    ensures line { Changing (RunsAction (codes "init") name.now (λ kept. Begins kept E.good E.tag_of (action_of action.now args.now true))) NoneOf replicas.old.items result replicas.new.items }
+    ensures later { E.faults env.old ≤ E.faults env.new }
+    ensures cause { IfErr result (HasCause (E.faults env.old) (E.faults env.new)) }
+{
+    let reply = init(alloc, replicas, name, action, args, env, steps);
+    published_line(alloc, "init", name, reply)
+}
+
+/// `act A f(args)`
+#[tactic(auto, using(crate::proofs::ChangeFacts::act_changes, crate::proofs::CauseFacts::act_caused))]
+pub fn act_line<R: Runner, G: Graph, F: FactBase, D: Disk, E: Envelope, L: Ledger>(
+    alloc: Global,
+    replicas: &mut Vec<Named<R, G, F, D>>,
+    name: &Text,
+    action: &Text,
+    args: &[Arg],
+    env: &mut E,
+    steps: &mut Steps<L>,
+) -> Result<Bytes, RunStop>
+    requires there { is_named replicas.old.items name.now ≡ true }
+    ensures line { Changing (RunsAction (codes "act") name.now (λ kept. ActsIn kept E.good E.tag_of (action_of action.now args.now false))) NoneOf replicas.old.items result replicas.new.items }
+    ensures later { E.faults env.old ≤ E.faults env.new }
+    ensures cause { IfErr result (HasCause (E.faults env.old) (E.faults env.new)) }
+{
+    let reply = act(alloc, replicas, name, action, args, env, steps);
+    published_line(alloc, "act", name, reply)
+}
+
+/// `join A B`: A is to have no graph yet, and B is to have one.
+#[tactic(auto, using(crate::proofs::ChangeFacts::join_changes, crate::proofs::CauseFacts::joins_mild, crate::proofs::CauseFacts::memory_alone))]
+pub fn join_line<R: Runner, G: Graph, F: FactBase, D: Disk>(
+    alloc: Global,
+    replicas: &mut Vec<Named<R, G, F, D>>,
+    name: &Text,
+    other: &Text,
+) -> Result<Bytes, RunStop>
+    requires there { is_named replicas.old.items name.now ≡ true }
+    requires other { is_named replicas.old.items other.now ≡ true }
+    ensures line { Changing (RunsJoin name.now other.now) NoneOf replicas.old.items result replicas.new.items }
+    ensures stop { IfErr result (λ why. why ≡ stop.NoMemory) }
+{
+    if graph_of(replicas.as_slice(), name).is_some() {
+        return refused_line(alloc, "join", &[name.as_str()], Refusal::HasGraph);
+    }
+    let Some(graph) = graph_of(replicas.as_slice(), other) else {
+        return refused_line(alloc, "join", &[name.as_str()], Refusal::NoGraph);
+    };
+    let reply = join(alloc, replicas, name, &graph);
+    joined_line(alloc, name, reply)
+}
+
+/// `take A n`, where this message was made, or none.
+#[tactic(auto, using(crate::proofs::ChangeFacts::take_changes, crate::proofs::CauseFacts::takes_mild, crate::proofs::CauseFacts::memory_alone))]
+pub fn take_line<R: Runner, G: Graph, F: FactBase, D: Disk, E: Envelope, L: Ledger>(
+    alloc: Global,
+    replicas: &mut Vec<Named<R, G, F, D>>,
+    name: &Text,
+    message: Option<&Bytes>,
+    env: &E,
+    steps: &mut Steps<L>,
+) -> Result<Bytes, RunStop>
+    requires there { is_named replicas.old.items name.now ≡ true }
+    ensures line { Changing (RunsTake (record { good = E.good; told = E.tag_of }) name.now (option_copied message)) NoneOf replicas.old.items result replicas.new.items }
+    ensures stop { IfErr result (λ why. why ≡ stop.NoMemory) }
+{
+    let Some(message) = message else {
+        return Ok(no_message_text(alloc, "take", &[name.as_str()])?);
+    };
+    let reply = take(alloc, replicas, name, message.as_slice(), env, steps);
+    taken_line(alloc, name, reply)
+}
+
+/// `restart A`: nothing changes.
+pub fn restart_line<R: Runner, G: Graph, F: FactBase, D: Disk, E: Envelope>(
+    alloc: Global,
+    replicas: &mut Vec<Named<R, G, F, D>>,
+    name: &Text,
+    env: &E,
+) -> Result<Bytes, RunStop>
+    requires there { is_named replicas.old.items name.now ≡ true }
+    ensures line { Changing (RunsRestart name.now) NoneOf replicas.old.items result replicas.new.items }
+    ensures stop { IfErr result (λ why. why ≡ stop.NoMemory) }
+{
+    let reply = restart(alloc, replicas, name, env);
+    restarted_line(alloc, name, reply)
+}

@@ -1,0 +1,117 @@
+//! Opens the replicas of a world on disks, and hands the disks back.
+
+ghost use Rattle.std.specs.Prelude.{◌≡◌, ◌≤◌, ◌<◌, ◌+◌, ◌++◌, ◌∷◌, [], IfErr, IfOk, drop, length, map, vec_capacity};
+ghost use Rattle.outside.specs.Envelope.{author_id};
+ghost use Rattle.replica.specs.Kept.{begun};
+ghost use Rattle.world.specs.working.Opening.{Opens, begun_by};
+
+use crate::named::Named;
+use base_bytes::{Id, Text};
+use command::Graph;
+use fact_store::FactBase;
+use outside::{Disk, Envelope};
+use policy_meaning::Runner;
+use replica::Replica;
+use std::alloc::Global;
+
+/// Puts a disk before the others, for which there is room.
+fn put_first<D: Disk>(disks: &mut Vec<D>, disk: D)
+    requires room { length disks.old.items < vec_capacity disks.old }
+    ensures items { disks.new.items ≡ disk ∷ disks.old.items }
+    ensures capacity { vec_capacity disks.old ≤ vec_capacity disks.new }
+{
+    match disks.insert(0, disk) {
+        Ok(()) => {}
+        Err(_) => unreachable!(),
+    }
+}
+
+/// The disks of the replicas, and the spare ones behind them, for all of which there is room. Takes no memory.
+pub fn put_back<R: Runner, G: Graph, F: FactBase, D: Disk>(
+    replicas: Vec<Named<R, G, F, D>>,
+    spare: Vec<D>,
+) -> Vec<D>
+    requires room { length replicas.items + length spare.items ≤ vec_capacity spare }
+    ensures { result.items ≡ map (λ r. r.kept.disk) replicas.items ++ spare.items }
+{
+    let mut disks = spare;
+    let mut left = replicas;
+    while let Some(one) = left.pop() {
+        put_first(&mut disks, one.replica.into_disk());
+    }
+    disks
+}
+
+/// The empty replica of this name. Without memory the disk is handed back.
+fn open_one<R: Runner, G: Graph, F: FactBase, D: Disk, E: Envelope>(
+    alloc: Global,
+    runner: R,
+    name: &Text,
+    digest: &Id,
+    disk: D,
+    env: &E,
+) -> Result<Named<R, G, F, D>, D>
+    ensures opens { IfOk result (λ one. one ≡ record { name = name.now; kept = begun (R.rules runner) digest.now (author_id name.now) disk }) }
+    ensures refuses { IfErr result (λ back. back ≡ disk) }
+{
+    let own = match name.copy(alloc) {
+        Ok(own) => own,
+        Err(_) => return Err(disk),
+    };
+    match Replica::open_on(alloc, runner, name, digest, disk, env) {
+        Ok(replica) => Ok(Named { name: own, replica }),
+        Err((_, _, disk)) => Err(disk),
+    }
+}
+
+/// Puts a replica behind the others, for which there is room.
+fn put_last<R: Runner, G: Graph, F: FactBase, D: Disk>(
+    replicas: &mut Vec<Named<R, G, F, D>>,
+    one: Named<R, G, F, D>,
+)
+    requires room { length replicas.old.items < vec_capacity replicas.old }
+    ensures items { replicas.new.items ≡ replicas.old.items ++ one ∷ [] }
+    ensures capacity { vec_capacity replicas.old ≤ vec_capacity replicas.new }
+{
+    match replicas.push(one) {
+        Ok(()) => {}
+        Err(_) => unreachable!(),
+    }
+}
+
+/// The empty replicas of the names, each by its runner and on the disk at its place, and the disks behind those. Without memory all disks are
+/// handed back.
+pub fn open_all<R: Runner, G: Graph, F: FactBase, D: Disk, E: Envelope>(
+    alloc: Global,
+    runners: Vec<R>,
+    names: &[Text],
+    digest: &Id,
+    disks: Vec<D>,
+    env: &E,
+) -> Result<(Vec<Named<R, G, F, D>>, Vec<D>), Vec<D>>
+    requires runners { length runners.items ≡ length names.now }
+    requires disks { length names.now ≤ length disks.items }
+    ensures replicas { IfOk result (λ both. both.0.items ≡ begun_by (map R.rules runners.items) digest.now names.now disks.items) }
+    ensures spare { IfOk result (λ both. both.1.items ≡ drop (length names.now) disks.items) }
+    ensures room { IfOk result (λ both. length both.0.items + length both.1.items ≤ vec_capacity both.1) }
+    ensures refuses { IfErr result (λ back. back.items ≡ disks.items) }
+{
+    let mut replicas = match Vec::with_capacity(alloc, names.len()) {
+        Ok(replicas) => replicas,
+        Err(_) => return Err(disks),
+    };
+    let mut runners = runners;
+    let mut spare = disks;
+    for name in names {
+        let runner = runners.remove(0);
+        let disk = spare.remove(0);
+        match open_one(alloc, runner, name, digest, disk, env) {
+            Ok(one) => put_last(&mut replicas, one),
+            Err(disk) => {
+                put_first(&mut spare, disk);
+                return Err(put_back(replicas, spare));
+            }
+        }
+    }
+    Ok((replicas, spare))
+}

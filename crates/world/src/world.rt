@@ -1,0 +1,217 @@
+ghost use Rattle.std.specs.Prelude.{◌≡◌, ◌≤◌, ◌<◌, ◌+◌, All, IfErr, IfOk, List, OnOk, length, map, true};
+ghost use Rattle.policy_ast.specs.declared.policy.PlacedItem.{PlacedItem};
+ghost use Rattle.script.specs.Scripts.{with_line};
+ghost use Rattle.world.specs.Lines.{Tags, may_run};
+ghost use Rattle.world.specs.Stops.{Acts, HasCause, RunsOrStops, Steps as IsStepOf};
+ghost use Rattle.world.specs.Worlds.{declared, disks_of, opened};
+ghost use Rattle.world.specs.declared.stop.RunStop.TheVariants as stop;
+ghost use Rattle.world.specs.working.Kinds.{Keeping, is_changing, is_making, is_showing};
+
+use crate::named::Named;
+use crate::opening::{open_all, put_back};
+use crate::running::{changing_line, is_making, is_showing, said_line, shown_line};
+use crate::said::Said;
+use crate::stop::RunStop;
+use base_bytes::{Bytes, Id, Steps, Text};
+use command::Graph;
+use fact_store::FactBase;
+use outside::{Disk, Envelope};
+use policy_meaning::Runner;
+use script::Line;
+use std::alloc::Global;
+use std::marker::Model;
+use std::sync::ledger::Ledger;
+
+/// Replicas by name, the messages that were made, and the disks that no replica uses. Contracts see what each replica keeps. The vector of disks has
+/// room for those of the replicas, so that handing all back takes no memory.
+#[derive(Drop)]
+pub struct World<R: Runner, G: Graph, F: FactBase, D: Disk> {
+    replicas: Vec<Named<R, G, F, D>>,
+    messages: Vec<Option<Bytes>>,
+    spare: Vec<D>,
+}
+
+impl<R: Runner, G: Graph, F: FactBase, D: Disk> Model for World<R, G, F, D> {
+    ghost use Rattle.std.specs.Prelude.{◌≤◌, ◌+◌, length, vec_capacity};
+    ghost use Rattle.std.specs.Coded.{codes};
+    ghost use Rattle.base_bytes.specs.contracts.value.Value as value;
+    ghost use Rattle.policy_ast.specs.contracts.policy.PlacedItem as placed_item;
+    ghost use Rattle.world.specs.Worlds.{Site};
+
+    ghost Value = { Site D };
+
+    ghost coded = { Prim.hlevel (codes, value.the_row.coded, placed_item.the_row.coded) };
+
+    ghost view = { λ w. record { replicas = w.replicas.items; messages = w.messages.items; spare = w.spare.items } };
+
+    ghost invariant = { λ w. length w.replicas.items + length w.spare.items ≤ vec_capacity w.spare };
+}
+
+impl<R: Runner, G: Graph, F: FactBase, D: Disk> World<R, G, F, D> {
+    /// The empty replicas of these names, each under its runner's policy, whose document has this digest, and on the disk at its place. The disks
+    /// behind those are left as they are. Without memory all disks are handed back in their order.
+    pub fn open_world<E: Envelope>(
+        alloc: Global,
+        runners: Vec<R>,
+        names: &[Text],
+        digest: &Id,
+        disks: Vec<D>,
+        env: &E,
+    ) -> Result<World<R, G, F, D>, (RunStop, Vec<D>)>
+        requires runners { length runners.items ≡ length names.now }
+        requires disks { length names.now ≤ length disks.items }
+        ensures opens { (policy : List PlacedItem) → All (λ r. R.rules r ≡ policy) runners.items → IfOk result (λ world. world ≡ opened policy digest.now names.now disks.items) }
+        ensures refuses { IfErr result (λ refused. (refused.0 ≡ stop.NoMemory) × (refused.1.items ≡ disks.items)) }
+    {
+        match open_all(alloc, runners, names, digest, disks, env) {
+            Ok((replicas, spare)) => Ok(World {
+                replicas,
+                messages: Vec::new(alloc),
+                spare,
+            }),
+            Err(disks) => Err((RunStop::NoMemory, disks)),
+        }
+    }
+
+    /// All disks in their order, as they are. Takes no memory.
+    pub fn into_disks(self) -> Vec<D>
+        ensures { result.items ≡ disks_of self }
+    {
+        put_back(self.replicas, self.spare)
+    }
+
+    /// Keeps the message of a line, or that it made none.
+    fn keep(&mut self, said: Said) -> Result<Bytes, RunStop>
+        ensures { Keeping self.old said result self.new }
+    {
+        match self.messages.push(said.message) {
+            Ok(()) => Ok(said.text),
+            Err(_) => Err(RunStop::NoMemory),
+        }
+    }
+
+    /// Runs a line that makes a message.
+    fn run_making(&mut self, alloc: Global, line: &Line) -> Result<Bytes, RunStop>
+        requires place { may_run self.old line.now ≡ true }
+        requires making { is_making line.now ≡ true }
+        ensures line { (tags : Tags) → RunsOrStops tags self.old line.now result self.new }
+        ensures stop { IfErr result (λ why. why ≡ stop.NoMemory) }
+    {
+        let said = said_line(
+            alloc,
+            self.replicas.as_slice(),
+            self.messages.as_slice(),
+            line,
+        );
+        match said {
+            Ok(said) => self.keep(said),
+            Err(stop) => Err(stop),
+        }
+    }
+
+    /// Runs a line that changes nothing.
+    fn run_showing(&self, alloc: Global, line: &Line) -> Result<Bytes, RunStop>
+        requires place { may_run self.now line.now ≡ true }
+        requires showing { is_showing line.now ≡ true }
+        ensures line { (tags : Tags) → RunsOrStops tags self.now line.now result self.now }
+        ensures stop { IfErr result (λ why. why ≡ stop.NoMemory) }
+    {
+        shown_line(
+            alloc,
+            self.replicas.as_slice(),
+            self.messages.as_slice(),
+            line,
+        )
+    }
+
+    /// Runs a line that may change a replica.
+    fn run_changing<E: Envelope, L: Ledger>(
+        &mut self,
+        alloc: Global,
+        line: &Line,
+        env: &mut E,
+        steps: &mut Steps<L>,
+    ) -> Result<Bytes, RunStop>
+        requires place { may_run self.old line.now ≡ true }
+        requires changing { is_changing line.now ≡ true }
+        ensures line { RunsOrStops (record { good = E.good; told = E.tag_of }) self.old line.now result self.new }
+        ensures later { E.faults env.old ≤ E.faults env.new }
+        ensures cause { IfErr result (HasCause (E.faults env.old) (E.faults env.new)) }
+        ensures seals { IfErr result (λ why. why ≡ stop.SealFault → Acts line.now) }
+    {
+        changing_line(
+            alloc,
+            &mut self.replicas,
+            self.messages.as_slice(),
+            line,
+            env,
+            steps,
+        )
+    }
+
+    fn run<E: Envelope, L: Ledger>(
+        &mut self,
+        alloc: Global,
+        line: &Line,
+        env: &mut E,
+        steps: &mut Steps<L>,
+    ) -> Result<Bytes, RunStop>
+        requires place { may_run self.old line.now ≡ true }
+        ensures line { RunsOrStops (record { good = E.good; told = E.tag_of }) self.old line.now result self.new }
+        ensures later { E.faults env.old ≤ E.faults env.new }
+        ensures cause { IfErr result (HasCause (E.faults env.old) (E.faults env.new)) }
+        ensures seals { IfErr result (λ why. why ≡ stop.SealFault → Acts line.now) }
+    {
+        if is_making(line) {
+            return self.run_making(alloc, line);
+        }
+        if is_showing(line) {
+            return self.run_showing(alloc, line);
+        }
+        self.run_changing(alloc, line, env, steps)
+    }
+
+    /// Runs a line, and appends its text.
+    fn run_into<E: Envelope, L: Ledger>(
+        &mut self,
+        alloc: Global,
+        line: &Line,
+        env: &mut E,
+        into: &mut Bytes,
+        steps: &mut Steps<L>,
+    ) -> Result<(), RunStop>
+        requires place { may_run self.old line.now ≡ true }
+        ensures line { IsStepOf (record { good = E.good; told = E.tag_of }) self.old line.now into.old result into.new self.new }
+        ensures later { E.faults env.old ≤ E.faults env.new }
+        ensures cause { IfErr result (HasCause (E.faults env.old) (E.faults env.new)) }
+        ensures seals { IfErr result (λ why. why ≡ stop.SealFault → Acts line.now) }
+    {
+        let text = match self.run(alloc, line, env, steps) {
+            Ok(text) => text,
+            Err(stop) => return Err(stop),
+        };
+        into.extend(alloc, text.as_slice())?;
+        Ok(())
+    }
+
+    /// Runs a line, and appends its text. Where it stops, nothing is appended, and the replicas are as a front of the line's events left them.
+    pub fn step<E: Envelope, L: Ledger>(
+        &mut self,
+        alloc: Global,
+        line: &Line,
+        env: &mut E,
+        into: &mut Bytes,
+        steps: &mut Steps<L>,
+    ) -> Result<(), RunStop>
+        requires place { may_run self.old line.now ≡ true }
+        ensures line { IsStepOf (record { good = E.good; told = E.tag_of }) self.old line.now into.old result into.new self.new }
+        ensures later { E.faults env.old ≤ E.faults env.new }
+        ensures cause { IfErr result (HasCause (E.faults env.old) (E.faults env.new)) }
+        ensures seals { IfErr result (λ why. why ≡ stop.SealFault → Acts line.now) }
+        ensures disks { disks_of self.new ≡ disks_of self.old }
+        ensures names { map (λ r. r.name) self.new.replicas ≡ map (λ r. r.name) self.old.replicas }
+        ensures messages { OnOk result (length self.new.messages ≡ (with_line (declared self.old) line.now).messages) }
+    {
+        self.run_into(alloc, line, env, into, steps)
+    }
+}
