@@ -1,8 +1,7 @@
 -- The rounds of a session: each next request asks from behind the commands that were met.
-use Rattle.std.proofs.Common.{◌≡◌, ◌⊎◌, ℕ, ◌+◌, ◌<◌, ◌≤◌, ◌^◌, inl, inr, Bool, true, false, if◌then◌else◌, List, [], ◌∷◌, ◌++◌, length, Option, Some, None, Result, Ok, Err, refl, sym, ap, subst, ◌∙◌, arith, length-append}
+use Rattle.std.proofs.Common.{◌≡◌, ℕ, ◌+◌, ◌<◌, ◌≤◌, ◌^◌, inl, inr, Bool, true, false, if◌then◌else◌, List, [], ◌∷◌, ◌++◌, length, Option, Some, None, Result, Ok, Err, refl, sym, ap, subst, ◌∙◌, arith, length-append}
 use Rattle.std.specs.List.{list_any}
 use Rattle.std.specs.Str.{bytes_eq}
-use Rattle.accept.specs.Admission.{IsAdmission}
 use Rattle.accept.specs.Takes.{IsTakenOn, Tally, counted, no_tally}
 use Rattle.accept.specs.declared.answer.Admit.{Admit}
 use Rattle.accept.specs.declared.answer.Admit.TheVariants.{Added, Repeat, Refused}
@@ -11,7 +10,7 @@ use Rattle.braid_run.specs.Soundness.{Criteria}
 use Rattle.command.specs.declared.command.Command.{Command}
 use Rattle.replica.specs.Calls.{Asks, Answers, AsksNext, TakesIn}
 use Rattle.replica.specs.Kept.{Kept, criteria_of}
-use Rattle.replica.specs.Messages.{AreNextBytes, IsRead, IsResponseRead, IsSpelled, for_graph}
+use Rattle.replica.specs.Messages.{AreNextBytes, IsRead, IsSpelled, for_graph}
 use Rattle.replica.specs.declared.counts.Taken.{Taken}
 use Rattle.replica.specs.declared.refusal.Refusal.{Refusal}
 use Rattle.replica.specs.declared.refusal.Refusal.TheVariants as refusal

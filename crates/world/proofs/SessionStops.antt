@@ -1,7 +1,7 @@
 -- What a session leaves and says where it is stopped.
 use Rattle.std.proofs.Common.{◌≡◌, ◌⊎◌, ℕ, inl, inr, Bool, true, false, if◌then◌else◌, List, [], ◌∷◌, Option, Some, None, Result, Ok, Err, IfErr, refl, sym, subst}
 use Rattle.std.specs.Str.{bytes_eq}
-use Rattle.replica.specs.Calls.{Answers, Asks, AsksNext, TakesIn}
+use Rattle.replica.specs.Calls.{Asks}
 use Rattle.replica.specs.Kept.{Kept}
 use Rattle.replica.specs.Messages.{IsRead, for_graph}
 use Rattle.replica.specs.declared.counts.Taken.{Taken}
@@ -10,10 +10,10 @@ use Rattle.replica.specs.declared.refusal.Refusal.TheVariants as refusal
 use Rattle.script_texts.specs.Bytes.{Bytes}
 use Rattle.sync_codec.specs.Messages.{IsRequest, IsResponse}
 use Rattle.world.specs.Lines.{RunsSync, Tags}
-use Rattle.world.specs.Sessions.{Goes, IsRound, Session, Sum, synced_line, synced_lines, with_taken}
+use Rattle.world.specs.Sessions.{IsRound, Session, Sum, synced_line, synced_lines, with_taken}
 use Rattle.world.specs.Sessions.Session.{done, no_answer, no_next, no_request, no_take}
 use Rattle.world.specs.Stops.{Came, IsStopBy}
-use Rattle.world.specs.Worlds.{Named, Of}
+use Rattle.world.specs.Worlds.{Named}
 use Rattle.world.specs.declared.stop.RunStop.{RunStop}
 use Rattle.world.specs.declared.stop.RunStop.TheVariants as stop
 use Rattle.world.specs.working.Rounds.{RunsSession, Syncs}

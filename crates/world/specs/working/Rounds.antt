@@ -6,7 +6,7 @@ use Rattle.replica.specs.declared.refusal.Refusal.{Refusal}
 use Rattle.replica.specs.declared.refusal.Refusal.TheVariants as refusal
 use Rattle.script_texts.specs.Bytes.{Bytes}
 use Rattle.world.specs.Lines.{RunsSync, Tags}
-use Rattle.world.specs.Sessions.{Goes, IsRound, Session, Sum}
+use Rattle.world.specs.Sessions.{IsRound, Session, Sum}
 use Rattle.world.specs.Stops.{Came}
 use Rattle.world.specs.Worlds.{Named, Of}
 use Rattle.world.specs.declared.stop.RunStop.{RunStop}

@@ -1,4 +1,4 @@
-use Rattle.std.proofs.Common.{inr, Ok, Err, Some, true, ◌≡◌, subst, sym}
+use Rattle.std.proofs.Common.{inr, Ok, Err, true, ◌≡◌, subst, sym}
 use Rattle.world.specs.working.Places.{is_named}
 use Rattle.world.proofs.RoundFacts.{named_behind, unanswered, untaken, whole}
 use Rattle.world.proofs.session.round.Goals as goal
