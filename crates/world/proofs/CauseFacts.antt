@@ -14,15 +14,16 @@ use Rattle.script_texts.specs.Bytes.{Bytes}
 use Rattle.transaction.specs.Acting.{Request as Action}
 use Rattle.transaction.specs.declared.fault.ActFault.{ActFault}
 use Rattle.transaction.specs.declared.fault.ActFault.TheVariants as fault
+use Rattle.world.specs.Lines.{graph_to_join}
 use Rattle.world.specs.Stops.{HasCause, IsStopBy}
 use Rattle.world.specs.Worlds.{Changes, Named, Of}
 use Rattle.world.specs.declared.stop.RunStop.{RunStop}
 use Rattle.world.specs.declared.stop.RunStop.TheVariants as stop
-use Rattle.world.specs.working.Words.{IsStopped, Words}
+use Rattle.world.specs.working.Words.{IsStopped, Words, WordsBy}
 
 -- ---- refusals that stop a run only for want of memory
 
-pub is_mild : Refusal → Bool
+abbrev pub is_mild : Refusal → Bool
 is_mild refusal.NoGraph = true
 is_mild refusal.HasGraph = true
 is_mild refusal.Malformed = true
@@ -60,7 +61,7 @@ read_mild : {M : Type 0} (graph : M → List ℕ) (message : Option M) (id : Opt
 read_mild graph None id why is = let e : why ≡ refusal.Malformed = cc in ap is_mild e
 read_mild graph (Some m) None why is = let e : why ≡ refusal.NoGraph = cc in ap is_mild e
 read_mild {M = M} graph (Some m) (Some id) why is = by (bytes_eq (graph m) id) is where
-  by : (b : Bool) → Err why ≡ (if b then Ok {T = M} m else Err (refusal.OtherGraph (graph m))) → is_mild why ≡ true
+  by : (b : Bool) → Err why ≡ (if b then Ok m else Err (refusal.OtherGraph (graph m))) → is_mild why ≡ true
   by true e = absurd cc
   by false e = let same : why ≡ refusal.OtherGraph (graph m) = cc in ap is_mild same
 
@@ -123,15 +124,17 @@ module _ (before now : ℕ) where
 
   acts_stop : {D : Type 0} (kept : Kept D) (good : List ℕ → List ℕ → List ℕ → Bool) (told : Option (List ℕ → List ℕ → List ℕ)) (action : Action) (t u : ℕ) (reply : Result Published Refusal) (new : Kept D) (s : RunStop)
       → ActsIn kept good told action t u reply new → IfErr reply (λ why. why ≡ refusal.Act fault.SealFault → Rose before now) → IsStopped reply s → HasCause before now s
-  acts_stop kept good told action t u reply new s step rose (inl none) = subst (HasCause before now) (sym none) tt
+  acts_stop kept good told action t u (Ok r) new s step rose (inl none) = subst (HasCause before now) (sym none) tt
   acts_stop kept good told action t u (Ok r) new s step rose (inr is) = absurd is
+  acts_stop kept good told action t u (Err why) new s step rose (inl none) = subst (HasCause before now) (sym none) tt
   acts_stop kept good told action t u (Err why) new s (same, inl none) rose (inr is) = memory_stop why s (ap is_mild none) is
   acts_stop kept good told action t u (Err why) new s (same, inr why_not) rose (inr is) = fault_stop kept good told action t u why s why_not is rose
 
   begins_stop : {D : Type 0} (kept : Kept D) (good : List ℕ → List ℕ → List ℕ → Bool) (told : Option (List ℕ → List ℕ → List ℕ)) (action : Action) (t u : ℕ) (reply : Result Published Refusal) (new : Kept D) (s : RunStop)
       → Begins kept good told action t u reply new → IfErr reply (λ why. why ≡ refusal.Act fault.SealFault → Rose before now) → IsStopped reply s → HasCause before now s
-  begins_stop kept good told action t u reply new s step rose (inl none) = subst (HasCause before now) (sym none) tt
+  begins_stop kept good told action t u (Ok r) new s step rose (inl none) = subst (HasCause before now) (sym none) tt
   begins_stop kept good told action t u (Ok r) new s step rose (inr is) = absurd is
+  begins_stop kept good told action t u (Err why) new s step rose (inl none) = subst (HasCause before now) (sym none) tt
   begins_stop kept good told action t u (Err why) new s (same, inl none) rose (inr is) = memory_stop why s (ap is_mild none) is
   begins_stop kept good told action t u (Err why) new s (same, inr (inl (named, has))) rose (inr is) = memory_stop why s (ap is_mild has) is
   begins_stop kept good told action t u (Err why) new s (same, inr (inr (unnamed, why_not))) rose (inr is) = fault_stop kept good told action t u why s why_not is rose
@@ -154,3 +157,10 @@ memory_caused before now (Err why) none = subst (HasCause before now) (sym none)
 pub memory_unsealed : {T : Type 0} (P : Type 0) (result : Result T RunStop) → IfErr result (λ why. why ≡ stop.NoMemory) → IfErr result (λ why. why ≡ stop.SealFault → P)
 memory_unsealed P (Ok r) none = tt
 memory_unsealed P (Err why) none = λ is. absurd cc
+
+-- a join is refused mildly before it is made
+pub refused_join_alone : (own known : Option (List ℕ)) (why : Refusal) (line : Option Bytes) (result : Result Bytes RunStop) → graph_to_join own known ≡ Err why → WordsBy (Some why) line result → IfErr result (λ s. s ≡ stop.NoMemory)
+refused_join_alone own known why line (Ok text) is words = tt
+refused_join_alone (Some own) known why line (Err s) is words = let e : why ≡ refusal.HasGraph = cc in mild_memory {T = Unit {0}} (Err why) s (ap is_mild e) words
+refused_join_alone None None why line (Err s) is words = let e : why ≡ refusal.NoGraph = cc in mild_memory {T = Unit {0}} (Err why) s (ap is_mild e) words
+refused_join_alone None (Some id) why line (Err s) is words = absurd cc

@@ -1,5 +1,5 @@
 -- A call changes a replica as its line says, or not at all.
-use Rattle.std.proofs.Common.{◌≡◌, ◌⊎◌, inl, inr, ℕ, Bool, List, Option, Some, Result, Ok, Err, IfOk, refl, ap, ◌∙◌}
+use Rattle.std.proofs.Common.{◌≡◌, ◌⊎◌, inl, inr, ℕ, Bool, List, [], ◌∷◌, codes, length, Option, Some, Result, Ok, Err, IfOk, refl, sym, ap, subst, ◌∙◌}
 use Rattle.replica.specs.Calls.{ActsIn, Answers, Asks, AsksNext, Begins, IsActionOf, IsTakeOf, Joins, TakesIn}
 use Rattle.replica.specs.Kept.{Kept}
 use Rattle.replica.specs.Steps.{IsStep}
@@ -10,13 +10,13 @@ use Rattle.script_texts.specs.Bytes.{Bytes}
 use Rattle.sync_codec.specs.Messages.{IsResponse}
 use Rattle.sync_codec.specs.declared.response.Response.{Response}
 use Rattle.transaction.specs.Acting.{Request as Action}
-use Rattle.world.specs.Lines.{JoinsGraph, RunsAction, RunsTake, SaysAnswer, SaysAsk, SaysNext, Tags}
-use Rattle.world.specs.Replies.{IsAnswerLine, asked_line, joined_line, message_of, next_line, next_message_of, published_line, taken_line}
+use Rattle.world.specs.Lines.{JoinsGraph, RunsAction, RunsJoin, RunsRestart, RunsTake, SaysAnswer, SaysAsk, SaysNext, Tags, graph_to_join}
+use Rattle.world.specs.Replies.{IsAnswerLine, asked_line, joined_line, message_of, next_line, next_message_of, published_line, refused_line, restarted_line, taken_line}
 use Rattle.world.specs.Worlds.{Changes, Named, Of, with_kept}
 use Rattle.world.specs.declared.said.Said.{Said}
 use Rattle.world.specs.declared.stop.RunStop.{RunStop}
 use Rattle.world.specs.working.Running.{Changing, Making, NoneOf}
-use Rattle.world.specs.working.Words.{AnswerWords, Words, WordsAndMessage}
+use Rattle.world.specs.working.Words.{AnswerWords, Words, WordsAndMessage, WordsBy}
 use Rattle.world.proofs.CauseFacts.{answers_mild, asks_mild, mild_memory, next_mild}
 use Rattle.world.proofs.PlaceFacts.{unchanged}
 
@@ -70,12 +70,12 @@ module _ {D : Type 0} where
         (take_front tags.good bytes name reply old new changes) words (λ text is. (reply, changes, is))
 
   join_front : (id name : Bytes) (reply : Result (Unit {0}) Refusal) (old new : List (Named D))
-      → Changes old name (λ before after. Joins before id reply after) new → (new ≡ old) ⊎ ((text : Bytes) × (joined_line name reply ≡ Some text))
+      → Changes old name (λ before after. Joins before {T = Unit {0}} id reply after) new → (new ≡ old) ⊎ ((text : Bytes) × (joined_line name reply ≡ Some text))
   join_front id name (Ok r) old new changes = inr (_, refl)
-  join_front id name (Err why) old new changes = inl (same_kept old name (λ before after. Joins before id (Err why) after) new (λ before after step. step.0) changes)
+  join_front id name (Err why) old new changes = inl (same_kept old name (λ before after. Joins before {T = Unit {0}} id (Err why) after) new (λ before after step. step.0) changes)
 
   pub join_changes : (id name : Bytes) (reply : Result (Unit {0}) Refusal) (old : List (Named D)) (result : Result Bytes RunStop) (new : List (Named D))
-      → Changes old name (λ before after. Joins before id reply after) new → Words reply (joined_line name reply) result
+      → Changes old name (λ before after. Joins before {T = Unit {0}} id reply after) new → Words reply (joined_line name reply) result
       → Changing (JoinsGraph name (Ok id)) NoneOf old result new
   join_changes id name reply old result new changes words =
       changing_by reply (joined_line name reply) (JoinsGraph name (Ok id)) old result new
@@ -102,3 +102,28 @@ module _ {D : Type 0} where
   pub answer_spelled : (replicas : List (Named D)) (a message : Bytes) (reply : Result Bytes Refusal) → Of replicas a (λ kept. Answers kept message reply) → IfOk reply (λ bytes. (response : Response) × IsResponse response bytes)
   answer_spelled replicas a message (Ok bytes) (kept, is, (request, read, (response, answer, spelled))) = (response, spelled)
   answer_spelled replicas a message (Err why) answers = tt
+
+  -- ---- joins and restarts
+
+  pub restart_changes : (name : Bytes) (reply : Result ℕ Refusal) (old : List (Named D)) (result : Result Bytes RunStop) (new : List (Named D))
+      → Of old name (λ kept. reply ≡ Ok (length kept.held.commands)) → new ≡ old → Words reply (restarted_line name reply) result → Changing (RunsRestart name) NoneOf old result new
+  restart_changes name reply old (Ok text) new (kept, is, same) unmoved words = ((kept, is, ap (restarted_line name) (sym same) ∙ words), unmoved)
+  restart_changes name reply old (Err why) new held unmoved words = inl unmoved
+
+  module _ (a b : Bytes) (own known : Option (List ℕ)) (old : List (Named D)) (of_own : Of old a (λ kept. own ≡ kept.held.graph_id)) (of_known : Of old b (λ kept. known ≡ kept.held.graph_id)) where
+    join_runs : (ready : Result (List ℕ) Refusal) (text : Bytes) (new : List (Named D)) → graph_to_join own known ≡ ready → JoinsGraph a ready old text new → RunsJoin a b old text new
+    join_runs ready text new is joins =
+        (of_own.0, of_own.1, (of_known.0, of_known.1,
+          subst (λ (r : Result (List ℕ) Refusal). JoinsGraph a r old text new) (sym is ∙ ap (λ o. graph_to_join o known) of_own.2 ∙ ap (graph_to_join of_own.0.held.graph_id) of_known.2) joins))
+
+    pub join_refused : (why : Refusal) (result : Result Bytes RunStop) → graph_to_join own known ≡ Err why → WordsBy (Some why) (refused_line (codes "join") (a ∷ []) why) result
+        → Changing (RunsJoin a b) NoneOf old result old
+    join_refused why (Ok text) is words = join_runs (Err why) text old is (words, refl)
+    join_refused why (Err s) is words = inl refl
+
+    pub join_done : (id : List ℕ) (result : Result Bytes RunStop) (new : List (Named D)) → graph_to_join own known ≡ Ok id → Changing (JoinsGraph a (Ok id)) NoneOf old result new
+        → Changing (RunsJoin a b) NoneOf old result new
+    join_done id (Ok text) new is runs = join_runs (Ok id) text new is runs
+    join_done id (Err s) new is (inl same) = inl same
+    join_done id (Err s) new is (inr (inl (text, runs))) = inr (inl (text, join_runs (Ok id) text new is runs))
+    join_done id (Err s) new is (inr (inr none)) = inr (inr none)

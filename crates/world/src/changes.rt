@@ -3,7 +3,7 @@
 ghost use Rattle.std.specs.Prelude.{◌≡◌, ◌≤◌, IfErr, codes, false, true};
 ghost use Rattle.std.specs.Option.{option_copied};
 ghost use Rattle.replica.specs.Calls.{ActsIn, Begins};
-ghost use Rattle.world.specs.Lines.{RunsAction, RunsJoin, RunsRestart, RunsTake, action_of};
+ghost use Rattle.world.specs.Lines.{RunsAction, RunsJoin, RunsRestart, RunsTake, action_of, graph_to_join};
 ghost use Rattle.world.specs.Stops.{HasCause};
 ghost use Rattle.world.specs.declared.stop.RunStop.TheVariants as stop;
 ghost use Rattle.world.specs.working.Places.{is_named};
@@ -13,7 +13,7 @@ use crate::events::{act, graph_of, init, join, restart, take};
 use crate::named::Named;
 use crate::replies::{joined_line, published_line, refused_line, restarted_line, taken_line};
 use crate::stop::RunStop;
-use base_bytes::{Arg, Bytes, Steps, Text};
+use base_bytes::{Arg, Bytes, Id, Steps, Text};
 use command::Graph;
 use fact_store::FactBase;
 use outside::{Disk, Envelope};
@@ -24,7 +24,7 @@ use std::alloc::Global;
 use std::sync::ledger::Ledger;
 
 /// `init A f(args)`
-#[tactic(auto, using(crate::proofs::ChangeFacts::init_changes, crate::proofs::CauseFacts::init_caused))]
+#[tactic(auto, using(crate::proofs::CauseFacts::init_caused))]
 pub fn init_line<R: Runner, G: Graph, F: FactBase, D: Disk, E: Envelope, L: Ledger>(
     alloc: Global,
     replicas: &mut Vec<Named<R, G, F, D>>,
@@ -44,7 +44,7 @@ pub fn init_line<R: Runner, G: Graph, F: FactBase, D: Disk, E: Envelope, L: Ledg
 }
 
 /// `act A f(args)`
-#[tactic(auto, using(crate::proofs::ChangeFacts::act_changes, crate::proofs::CauseFacts::act_caused))]
+#[tactic(auto, using(crate::proofs::CauseFacts::act_caused))]
 pub fn act_line<R: Runner, G: Graph, F: FactBase, D: Disk, E: Envelope, L: Ledger>(
     alloc: Global,
     replicas: &mut Vec<Named<R, G, F, D>>,
@@ -63,8 +63,19 @@ pub fn act_line<R: Runner, G: Graph, F: FactBase, D: Disk, E: Envelope, L: Ledge
     published_line(alloc, "act", name, reply)
 }
 
+/// The graph that a replica is to join: the other one's, where it has none yet itself.
+fn graph_to_join(own: Option<Id>, known: Option<Id>) -> Result<Id, Refusal>
+    ensures { result ≡ graph_to_join own known }
+{
+    match (own, known) {
+        (Some(_), _) => Err(Refusal::HasGraph),
+        (None, None) => Err(Refusal::NoGraph),
+        (None, Some(graph)) => Ok(graph),
+    }
+}
+
 /// `join A B`: A is to have no graph yet, and B is to have one.
-#[tactic(auto, using(crate::proofs::ChangeFacts::join_changes, crate::proofs::CauseFacts::joins_mild, crate::proofs::CauseFacts::memory_alone))]
+#[tactic(auto, using(crate::proofs::CauseFacts::joins_mild, crate::proofs::CauseFacts::memory_alone, crate::proofs::CauseFacts::refused_join_alone))]
 pub fn join_line<R: Runner, G: Graph, F: FactBase, D: Disk>(
     alloc: Global,
     replicas: &mut Vec<Named<R, G, F, D>>,
@@ -76,18 +87,19 @@ pub fn join_line<R: Runner, G: Graph, F: FactBase, D: Disk>(
     ensures line { Changing (RunsJoin name.now other.now) NoneOf replicas.old.items result replicas.new.items }
     ensures stop { IfErr result (λ why. why ≡ stop.NoMemory) }
 {
-    if graph_of(replicas.as_slice(), name).is_some() {
-        return refused_line(alloc, "join", &[name.as_str()], Refusal::HasGraph);
+    let own = graph_of(replicas.as_slice(), name);
+    let known = graph_of(replicas.as_slice(), other);
+    match graph_to_join(own, known) {
+        Ok(graph) => {
+            let reply = join(alloc, replicas, name, &graph);
+            joined_line(alloc, name, reply)
+        }
+        Err(why) => refused_line(alloc, "join", &[name.as_str()], why),
     }
-    let Some(graph) = graph_of(replicas.as_slice(), other) else {
-        return refused_line(alloc, "join", &[name.as_str()], Refusal::NoGraph);
-    };
-    let reply = join(alloc, replicas, name, &graph);
-    joined_line(alloc, name, reply)
 }
 
 /// `take A n`, where this message was made, or none.
-#[tactic(auto, using(crate::proofs::ChangeFacts::take_changes, crate::proofs::CauseFacts::takes_mild, crate::proofs::CauseFacts::memory_alone))]
+#[tactic(auto, using(crate::proofs::CauseFacts::takes_mild, crate::proofs::CauseFacts::memory_alone))]
 pub fn take_line<R: Runner, G: Graph, F: FactBase, D: Disk, E: Envelope, L: Ledger>(
     alloc: Global,
     replicas: &mut Vec<Named<R, G, F, D>>,
@@ -97,7 +109,7 @@ pub fn take_line<R: Runner, G: Graph, F: FactBase, D: Disk, E: Envelope, L: Ledg
     steps: &mut Steps<L>,
 ) -> Result<Bytes, RunStop>
     requires there { is_named replicas.old.items name.now ≡ true }
-    ensures line { Changing (RunsTake (record { good = E.good; told = E.tag_of }) name.now (option_copied message)) NoneOf replicas.old.items result replicas.new.items }
+    ensures line { Changing (RunsTake (record { good = E.good; told = E.tag_of }) name.now (option_copied message.entry)) NoneOf replicas.old.items result replicas.new.items }
     ensures stop { IfErr result (λ why. why ≡ stop.NoMemory) }
 {
     let Some(message) = message else {

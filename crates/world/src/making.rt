@@ -61,7 +61,6 @@ pub fn ask_line<R: Runner, G: Graph, F: FactBase, D: Disk>(
 }
 
 /// `next A n`, as the line of this number.
-#[tactic(auto, using(crate::proofs::ChangeFacts::next_says))]
 pub fn next_request_line<R: Runner, G: Graph, F: FactBase, D: Disk>(
     alloc: Global,
     replicas: &[Named<R, G, F, D>],
@@ -70,7 +69,7 @@ pub fn next_request_line<R: Runner, G: Graph, F: FactBase, D: Disk>(
     number: u32,
 ) -> Result<Said, RunStop>
     requires there { is_named replicas.now name.now ≡ true }
-    ensures line { Making (SaysNext replicas.now name.now (option_copied message) number) result }
+    ensures line { Making (SaysNext replicas.now name.now (option_copied message.entry) number) result }
 {
     let Some(message) = message else {
         return nothing_said(alloc, "next", name);
@@ -80,7 +79,7 @@ pub fn next_request_line<R: Runner, G: Graph, F: FactBase, D: Disk>(
 }
 
 /// `answer A n`, as the line of this number.
-#[tactic(auto, using(crate::proofs::ChangeFacts::answer_says, crate::proofs::ChangeFacts::answer_spelled))]
+#[tactic(auto, using(crate::proofs::ChangeFacts::answer_spelled))]
 pub fn response_line<R: Runner, G: Graph, F: FactBase, D: Disk>(
     alloc: Global,
     replicas: &[Named<R, G, F, D>],
@@ -89,7 +88,7 @@ pub fn response_line<R: Runner, G: Graph, F: FactBase, D: Disk>(
     number: u32,
 ) -> Result<Said, RunStop>
     requires there { is_named replicas.now name.now ≡ true }
-    ensures line { Making (SaysAnswer replicas.now name.now (option_copied message) number) result }
+    ensures line { Making (SaysAnswer replicas.now name.now (option_copied message.entry) number) result }
 {
     let Some(message) = message else {
         return nothing_said(alloc, "answer", name);
