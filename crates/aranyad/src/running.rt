@@ -58,11 +58,13 @@ fn run_lines<R: Runner, G: Graph, F: FactBase, D: Disk, E: Envelope, K: Sink, L:
 {
     for line in lines {
         let mut text = Bytes::new(alloc);
-        if let Err(stop) = world.step(alloc, line, env, &mut text, steps) {
-            return Err(halted(stop));
+        match world.step(alloc, line, env, &mut text, steps) {
+            Ok(()) => {}
+            Err(stop) => return Err(halted(stop)),
         }
-        if write_all(out, text.as_slice()).is_err() {
-            return Err(Halt::Write);
+        match write_all(out, text.as_slice()) {
+            Ok(()) => {}
+            Err(_) => return Err(Halt::Write),
         }
     }
     Ok(Ending::Done)
