@@ -1,14 +1,17 @@
 -- A line runs in a world where it runs on its replicas and messages; and what it keeps.
-use Rattle.std.proofs.Common.{◌≡◌, ◌⊎◌, inl, inr, ℕ, ◌+◌, Bool, true, false, List, [], ◌∷◌, ◌++◌, length, map, Option, Result, Ok, Err, OnOk, refl, sym, ap, subst, ◌∙◌, length-append}
+use Rattle.std.proofs.Common.{rules, arith, codes, nat_lt, ◌<◌, ◌≡◌, ◌⊎◌, inl, inr, ℕ, ◌+◌, Bool, true, false, List, [], ◌∷◌, ◌++◌, length, map, Option, Result, Ok, Err, OnOk, refl, sym, ap, subst, ◌∙◌, length-append}
+use Rattle.std.proofs.lemmas.Bool.{and_parts}
+use Rattle.std.proofs.lemmas.Bool.Decides.{nat_tests}
 use Rattle.script.specs.Scripts.{with_line}
 use Rattle.script.specs.declared.line.Line.{Line}
 use Rattle.script.specs.declared.line.Line.TheVariants as line
 use Rattle.script_texts.specs.Bytes.{Bytes}
-use Rattle.world.specs.Lines.{KeepsRest, Makes, Runs, Tags}
+use Rattle.world.specs.Lines.{KeepsRest, Makes, Runs, Tags, action_of, may_run}
 use Rattle.world.specs.Stops.{LeavesFront, RunsOrStops, SomeOf, Steps, Stops}
 use Rattle.world.specs.Worlds.{Named, Site, declared, disks_of, site_of, with_message}
 use Rattle.world.specs.declared.said.Said.{Said}
 use Rattle.world.specs.declared.stop.RunStop.{RunStop}
+use Rattle.world.specs.working.Kinds.{is_making}
 use Rattle.world.specs.working.Running.{Changing, RunsIn, SaysIn, ShowsIn}
 use Rattle.world.proofs.KeepFacts.{Keeps, act_keeps, came_keeps, init_keeps, join_keeps, keeps_on, keeps_same, session_keeps, takes_keep}
 
@@ -81,9 +84,9 @@ module _ {D : Type 0} (tags : Tags) where
   -- ---- what is kept
 
   changed_keeps : (messages : List (Option Bytes)) (one : Line) (old : List (Named D)) (text : Bytes) (new : List (Named D)) → RunsIn tags messages one old text new → Keeps old new
-  changed_keeps messages (line.Init a f args) old text new runs = init_keeps tags.good tags.told _ _ a old text new runs
+  changed_keeps messages (line.Init a f args) old text new runs = init_keeps tags.good tags.told (action_of f args true) (codes "init") a old text new runs
   changed_keeps messages (line.Join a b) old text new runs = join_keeps a b old text new runs
-  changed_keeps messages (line.Act a f args) old text new runs = act_keeps tags.good tags.told _ _ a old text new runs
+  changed_keeps messages (line.Act a f args) old text new runs = act_keeps tags.good tags.told (action_of f args false) (codes "act") a old text new runs
   changed_keeps messages (line.Sync a b) old text new (result, session, said) = session_keeps tags.good a b old result new session
   changed_keeps messages (line.Take a n) old text new runs = takes_keep tags a _ old text new runs
   changed_keeps messages (line.Restart a) old text new runs = keeps_same old new runs.1
@@ -202,3 +205,25 @@ module _ {D : Type 0} (tags : Tags) where
 
   pub text_dropped : (old : Site D) (one : Line) (text : Bytes) (new : Site D) → Runs tags old one text new → LeavesFront tags old one new
   text_dropped old one text new runs = record { front = inr (inl (text, new, runs, refl)); spare = (runs_keep old one text new runs).spare }
+
+-- a line that makes a message has room for it
+module _ {D : Type 0} (site : Site D) where
+  room_here : nat_lt (length site.messages) 8192 ≡ true → length site.messages < 8192
+  room_here is = grind (arith, nat_tests)
+
+  pub has_room_for : (one : Line) → is_making one ≡ true → may_run site one ≡ true → length site.messages < 8192
+  has_room_for (line.Ask a) making is = room_here ((and_parts _ _ is).1)
+  has_room_for (line.Next a n) making is = room_here (search (rules, and_parts))
+  has_room_for (line.Answer a n) making is = room_here (search (rules, and_parts))
+  has_room_for (line.Inject bytes) making is = room_here is
+  has_room_for (line.Replica a) making is = absurd cc
+  has_room_for (line.Init a f args) making is = absurd cc
+  has_room_for (line.Join a b) making is = absurd cc
+  has_room_for (line.Act a f args) making is = absurd cc
+  has_room_for (line.Sync a b) making is = absurd cc
+  has_room_for (line.Take a n) making is = absurd cc
+  has_room_for (line.Restart a) making is = absurd cc
+  has_room_for (line.Facts a) making is = absurd cc
+  has_room_for (line.Effects a) making is = absurd cc
+  has_room_for (line.Graph a) making is = absurd cc
+  has_room_for line.Blank making is = absurd cc

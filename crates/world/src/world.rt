@@ -91,6 +91,7 @@ impl<R: Runner, G: Graph, F: FactBase, D: Disk> World<R, G, F, D> {
     }
 
     /// Runs a line that makes a message.
+    #[tactic(auto, using(crate::proofs::LineFacts::made_runs, crate::proofs::LineFacts::has_room_for))]
     fn run_making(&mut self, alloc: Global, line: &Line) -> Result<Bytes, RunStop>
         requires place { may_run self.old line.now ≡ true }
         requires making { is_making line.now ≡ true }
@@ -110,6 +111,7 @@ impl<R: Runner, G: Graph, F: FactBase, D: Disk> World<R, G, F, D> {
     }
 
     /// Runs a line that changes nothing.
+    #[tactic(auto, using(crate::proofs::LineFacts::shown_runs))]
     fn run_showing(&self, alloc: Global, line: &Line) -> Result<Bytes, RunStop>
         requires place { may_run self.now line.now ≡ true }
         requires showing { is_showing line.now ≡ true }
