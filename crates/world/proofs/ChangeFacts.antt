@@ -43,7 +43,7 @@ module _ {D : Type 0} where
       → Changing (RunsAction verb name (λ kept. Begins kept good told action)) NoneOf old result new
   init_changes good told action t u verb name reply old result new changes words =
       changing_by reply (published_line verb name reply) (RunsAction verb name (λ kept. Begins kept good told action)) old result new
-        (init_front good told action t u verb name reply old new changes) words (λ text is. (reply, (t, u), changes, is))
+      (init_front good told action t u verb name reply old new changes) words (λ text is. (reply, (t, u), changes, is))
 
   act_front : (good : List ℕ → List ℕ → List ℕ → Bool) (told : Option (List ℕ → List ℕ → List ℕ)) (action : Action) (t u : ℕ) (verb name : Bytes) (reply : Result Published Refusal) (old new : List (Named D))
       → Changes old name (λ before after. ActsIn before good told action t u reply after) new → (new ≡ old) ⊎ ((text : Bytes) × (published_line verb name reply ≡ Some text))
@@ -55,7 +55,7 @@ module _ {D : Type 0} where
       → Changing (RunsAction verb name (λ kept. ActsIn kept good told action)) NoneOf old result new
   act_changes good told action t u verb name reply old result new changes words =
       changing_by reply (published_line verb name reply) (RunsAction verb name (λ kept. ActsIn kept good told action)) old result new
-        (act_front good told action t u verb name reply old new changes) words (λ text is. (reply, (t, u), changes, is))
+      (act_front good told action t u verb name reply old new changes) words (λ text is. (reply, (t, u), changes, is))
 
   take_front : (good : List ℕ → List ℕ → List ℕ → Bool) (bytes name : Bytes) (reply : Result Taken Refusal) (old new : List (Named D))
       → Changes old name (λ before after. TakesIn before good bytes reply after) new → (new ≡ old) ⊎ ((text : Bytes) × (taken_line name reply ≡ Some text))
@@ -67,7 +67,7 @@ module _ {D : Type 0} where
       → Changing (RunsTake tags name (Some bytes)) NoneOf old result new
   take_changes tags bytes name reply old result new changes words =
       changing_by reply (taken_line name reply) (RunsTake tags name (Some bytes)) old result new
-        (take_front tags.good bytes name reply old new changes) words (λ text is. (reply, changes, is))
+      (take_front tags.good bytes name reply old new changes) words (λ text is. (reply, changes, is))
 
   join_front : (id name : Bytes) (reply : Result (Unit {0}) Refusal) (old new : List (Named D))
       → Changes old name (λ before after. Joins before {T = Unit {0}} id reply after) new → (new ≡ old) ⊎ ((text : Bytes) × (joined_line name reply ≡ Some text))
@@ -79,7 +79,7 @@ module _ {D : Type 0} where
       → Changing (JoinsGraph name (Ok id)) NoneOf old result new
   join_changes id name reply old result new changes words =
       changing_by reply (joined_line name reply) (JoinsGraph name (Ok id)) old result new
-        (join_front id name reply old new changes) words (λ text is. (reply, changes, is))
+      (join_front id name reply old new changes) words (λ text is. (reply, changes, is))
 
   -- ---- lines that make a message
 
@@ -112,9 +112,15 @@ module _ {D : Type 0} where
 
   module _ (a b : Bytes) (own known : Option (List ℕ)) (old : List (Named D)) (of_own : Of old a (λ kept. own ≡ kept.held.graph_id)) (of_known : Of old b (λ kept. known ≡ kept.held.graph_id)) where
     join_runs : (ready : Result (List ℕ) Refusal) (text : Bytes) (new : List (Named D)) → graph_to_join own known ≡ ready → JoinsGraph a ready old text new → RunsJoin a b old text new
-    join_runs ready text new is joins =
-        (of_own.0, of_own.1, (of_known.0, of_known.1,
-          subst (λ (r : Result (List ℕ) Refusal). JoinsGraph a r old text new) (sym is ∙ ap (λ o. graph_to_join o known) of_own.2 ∙ ap (graph_to_join of_own.0.held.graph_id) of_known.2) joins))
+    join_runs ready text new is joins = (
+      of_own.0,
+      of_own.1,
+      (
+        of_known.0,
+        of_known.1,
+        subst (λ (r : Result (List ℕ) Refusal). JoinsGraph a r old text new) (sym is ∙ ap (λ o. graph_to_join o known) of_own.2 ∙ ap (graph_to_join of_own.0.held.graph_id) of_known.2) joins,
+      ),
+    )
 
     pub join_refused : (why : Refusal) (result : Result Bytes RunStop) → graph_to_join own known ≡ Err why → WordsBy (Some why) (refused_line (codes "join") (a ∷ []) why) result
         → Changing (RunsJoin a b) NoneOf old result old

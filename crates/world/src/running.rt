@@ -92,14 +92,7 @@ pub fn shown_line<R: Runner, G: Graph, F: FactBase, D: Disk>(
 }
 
 /// Runs a line that may change a replica.
-pub fn changing_line<
-    R: Runner,
-    G: Graph,
-    F: FactBase,
-    D: Disk,
-    E: Envelope,
-    L: Ledger,
->(
+pub fn changing_line<R: Runner, G: Graph, F: FactBase, D: Disk, E: Envelope, L: Ledger>(
     alloc: Global,
     replicas: &mut Vec<Named<R, G, F, D>>,
     messages: &[Option<Bytes>],

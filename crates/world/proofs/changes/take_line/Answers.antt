@@ -9,5 +9,5 @@ pub returns-clause-line : goal.returns-clause-line
 returns-clause-line g c =
     let same : option_copied c.args.message ≡ Some c.as_slice.result.now = search rules in
     subst (λ message. Changing (RunsTake (record { good = g.E.Envelope.good; told = g.E.Envelope.tag_of }) c.args.name.now message) NoneOf c.args.replicas.now.items c.taken_line.result c.take-reply.new.replicas.items) (sym same)
-      (take_changes (record { good = g.E.Envelope.good; told = g.E.Envelope.tag_of }) c.as_slice.result.now c.args.name.now c.take-reply.result c.args.replicas.now.items c.taken_line.result c.take-reply.new.replicas.items
-        c.take-reply.ensures.step c.taken_line.ensures)
+    (take_changes (record { good = g.E.Envelope.good; told = g.E.Envelope.tag_of }) c.as_slice.result.now c.args.name.now c.take-reply.result c.args.replicas.now.items c.taken_line.result c.take-reply.new.replicas.items
+    c.take-reply.ensures.step c.taken_line.ensures)

@@ -12,7 +12,8 @@ returns g c =
         c.act.new.self,
         kept_there c.args.replicas.now.items c.args.name.now c.place_of-place.result c.behind-replicas.inside.name c.behind-replicas.inside.replica c.index_mut.result.now c.requires.there at c.behind-replicas.view_is c.index_mut.ensures.value,
         c.act.ensures.step,
-        set_there c.args.replicas.now.items c.args.name.now c.place_of-place.result c.behind-replicas.inside.name c.behind-replicas.inside.replica c.index_mut.result.now c.act.new.self c.requires.there at c.behind-replicas.view_is c.index_mut.ensures.value);
+        set_there c.args.replicas.now.items c.args.name.now c.place_of-place.result c.behind-replicas.inside.name c.behind-replicas.inside.replica c.index_mut.result.now c.act.new.self c.requires.there at c.behind-replicas.view_is c.index_mut.ensures.value,
+      );
       later = c.act.ensures.later;
       cause = c.act.ensures.cause;
     }

@@ -9,7 +9,7 @@ returns g c =
     record {
       held = (c.behind-replicas.inside.replica, kept_there c.args.replicas.now.items c.args.name.now c.place_of-place.result c.behind-replicas.inside.name c.behind-replicas.inside.replica c.index_mut.result.now c.requires.there at c.behind-replicas.view_is c.index_mut.ensures.value, c.restart.ensures.held);
       same =
-        ap (λ k. set c.args.replicas.now.items c.place_of-place.result (record { name = c.behind-replicas.inside.name; kept = k })) c.restart.ensures.same
-        ∙ set_there c.args.replicas.now.items c.args.name.now c.place_of-place.result c.behind-replicas.inside.name c.behind-replicas.inside.replica c.index_mut.result.now c.behind-replicas.inside.replica c.requires.there at c.behind-replicas.view_is c.index_mut.ensures.value
-        ∙ unchanged c.args.replicas.now.items c.args.name.now c.behind-replicas.inside.replica (kept_there c.args.replicas.now.items c.args.name.now c.place_of-place.result c.behind-replicas.inside.name c.behind-replicas.inside.replica c.index_mut.result.now c.requires.there at c.behind-replicas.view_is c.index_mut.ensures.value);
+          ap (λ k. set c.args.replicas.now.items c.place_of-place.result (record { name = c.behind-replicas.inside.name; kept = k })) c.restart.ensures.same
+          ∙ set_there c.args.replicas.now.items c.args.name.now c.place_of-place.result c.behind-replicas.inside.name c.behind-replicas.inside.replica c.index_mut.result.now c.behind-replicas.inside.replica c.requires.there at c.behind-replicas.view_is c.index_mut.ensures.value
+          ∙ unchanged c.args.replicas.now.items c.args.name.now c.behind-replicas.inside.replica (kept_there c.args.replicas.now.items c.args.name.now c.place_of-place.result c.behind-replicas.inside.name c.behind-replicas.inside.replica c.index_mut.result.now c.requires.there at c.behind-replicas.view_is c.index_mut.ensures.value);
     }

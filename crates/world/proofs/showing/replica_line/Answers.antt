@@ -8,5 +8,6 @@ returns g c = record {
     c.replica_of.result.now,
     c.replica_of.ensures,
     c.in_ok-replica_text.ensures
-    ∙ ap (λ n. replica_text c.args.name.now n) (c.len.ensures ∙ ap length (c.graph.ensures.commands ∙ ap (λ held. held.commands) c.state-state.ensures.held)));
+        ∙ ap (λ n. replica_text c.args.name.now n) (c.len.ensures ∙ ap length (c.graph.ensures.commands ∙ ap (λ held. held.commands) c.state-state.ensures.held)),
+  );
 }
