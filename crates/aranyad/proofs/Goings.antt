@@ -10,6 +10,8 @@ use Rattle.world.specs.Stops.{Acts, LeavesFront}
 use Rattle.world.specs.Worlds.{Site}
 use Rattle.world.specs.declared.stop.RunStop.{RunStop}
 use Rattle.world.specs.declared.stop.RunStop.TheVariants as stop
+use Rattle.aranyad.specs.Checking.{Reads}
+use Rattle.aranyad.specs.Loading.{Holds}
 use Rattle.aranyad.specs.Printing.{Goes, Prints, Says}
 use Rattle.aranyad.specs.Scripts.{RanUpTo, Ran, RunsLines}
 use Rattle.aranyad.specs.Scripts as scripts
@@ -57,6 +59,14 @@ told_map (Some at) P Q step p = step at p
 pub told_from : (holds : Option Holding) (F P Q : Holding → Type 0) → ((at : Holding) → F at → P at → Q at) → IfSome holds F → IfSome holds P → IfSome holds Q
 told_from None F P Q step f p = tt
 told_from (Some at) F P Q step f p = step at f p
+
+-- a file was read and taken for this, and what was made of that is what is owed
+pub read_goes : {L : Type 0} (holds : Option Holding) (file : Holding → Option (Option (List ℕ))) (IsOne : Option (List ℕ) → L → Type 0) (Makes : Holding → L → Result Ending Halt → List (List ℕ) → Type 0) (one : L)
+    (result : Result Ending Halt) (old new : Option (List ℕ)) → IfSome holds (λ at. Holds (file at) (λ bytes. IsOne bytes one)) → IfSome holds (λ at. Goes (Makes at one) result old new) →
+    IfSome holds (λ at. Goes (Reads (file at) (λ bytes r ts. (is : L) × IsOne bytes is × Makes at is r ts)) result old new)
+read_goes holds file IsOne Makes one result old new held goes =
+    told_from holds (λ at. Holds (file at) (λ bytes. IsOne bytes one)) (λ at. Goes (Makes at one) result old new) _
+    (λ at h g. record { texts = g.texts; is = inr (h.0, h.1, (one, h.2, g.is)); printed = g.printed }) held goes
 
 -- ---- lines
 
@@ -116,3 +126,10 @@ module _ {D : Type 0} (tags : Tags) (first : Site D) (lines : List Line) (old : 
 -- the lines that are left are the one at hand and those behind it
 pub at_hand : (lines : List Line) (i : ℕ) (one : Line) → i < length lines → one ≡ get_or lines i one → drop i lines ≡ one ∷ drop (i + 1) lines
 at_hand lines i one inside is = drop-cons lines i one inside ∙ ap (λ l. l ∷ drop (suc i) lines) (sym is) ∙ rw add-one refl
+
+-- what was written of a text was written of the same text under another name
+pub front_as : (t u : List ℕ) (old new : Option (List ℕ)) → t ≡ u → WritesFront t old new → WritesFront u old new
+front_as t u old new same front = subst (λ x. WritesFront x old new) same front
+
+pub printed_as : (t u : List ℕ) (old new : Option (List ℕ)) → t ≡ u → new ≡ append_known old t → new ≡ append_known old u
+printed_as t u old new same printed = printed ∙ ap (append_known old) same

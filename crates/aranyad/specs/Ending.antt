@@ -36,14 +36,15 @@ pub record Counts : Type 0 where
 abbrev pub counts : ℕ → ℕ → ℕ → Counts
 counts files seals writes = record { files = files; seals = seals; writes = writes }
 
--- No count fell, and a halt by a device needs that its count rose.
-pub record HaltsWithCause {T : Type 0} (old new : Counts) (result : Result T Halt) : Type 0 where
+-- No count fell, a halt by a device needs that its count rose, and the words were of a mode.
+pub record HaltsWithCause (old new : Counts) (result : Result Ending Halt) : Type 0 where
   pub later_files : old.files ≤ new.files
   pub later_seals : old.seals ≤ new.seals
   pub later_writes : old.writes ≤ new.writes
   pub read : result ≡ Err halt.Read → Rose old.files new.files
   pub seal : result ≡ Err halt.Seal → Rose old.seals new.seals
   pub write : result ≡ Err halt.Write → Rose old.writes new.writes
+  pub no_usage : result ≢ Ok ending.Usage
 
 -- The same of a read of the file with this name, which no other device halts.
 pub record ReadHalts {T : Type 0} (name : List ℕ) (old new : ℕ) (last : Option (List ℕ)) (result : Result T Halt) : Type 0 where
@@ -61,14 +62,16 @@ pub record WriteHalts {T : Type 0} (old new : ℕ) (result : Result T Halt) : Ty
   pub no_memory : result ≢ Err halt.Memory
 
 -- The same of a line that is made and written: memory may lack too.
-pub record SaysOrLacks {T : Type 0} (old new : ℕ) (result : Result T Halt) : Type 0 where
+pub record SaysOrLacks (old new : ℕ) (result : Result Ending Halt) : Type 0 where
+  pub no_usage : result ≢ Ok ending.Usage
   pub later : old ≤ new
   pub write : result ≡ Err halt.Write → Rose old new
   pub no_read : result ≢ Err halt.Read
   pub no_seal : result ≢ Err halt.Seal
 
 -- The same of lines that are run: the envelope and the sink alone may halt them.
-pub record LinesHalt {T : Type 0} (seals_old seals_new writes_old writes_new : ℕ) (result : Result T Halt) : Type 0 where
+pub record LinesHalt (seals_old seals_new writes_old writes_new : ℕ) (result : Result Ending Halt) : Type 0 where
+  pub no_usage : result ≢ Ok ending.Usage
   pub later_seals : seals_old ≤ seals_new
   pub later_writes : writes_old ≤ writes_new
   pub no_read : result ≢ Err halt.Read

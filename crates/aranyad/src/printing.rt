@@ -1,4 +1,4 @@
-ghost use Rattle.std.specs.Prelude.{◌≡◌};
+ghost use Rattle.std.specs.Prelude.{◌≡◌, IfOk};
 ghost use Rattle.outside.specs.Causes.{HasCause};
 ghost use Rattle.aranyad.specs.Ending.{WriteHalts};
 ghost use Rattle.aranyad.specs.Printing.{Goes, Says};
@@ -22,6 +22,7 @@ pub fn write_all<K: Sink>(out: &mut K, text: &[u8]) -> Result<(), Failed>
 
 /// Writes the one line of an ending, its line feed with it.
 pub fn say<K: Sink>(out: &mut K, ending: Ending, line: &[u8]) -> Result<Ending, Halt>
+    ensures ending { IfOk result (λ end. end ≡ ending) }
     ensures goes { Goes (Says ending line.now) result (K.written out.old) (K.written out.new) }
     ensures cause { WriteHalts (K.faults out.old) (K.faults out.new) result }
 {

@@ -35,7 +35,6 @@ fn run_mode<F: Files, D: Disk, E: Envelope, K: Sink>(
     ensures cause { HaltsWithCause (counts (F.faults files.old) (E.faults env.old) (K.faults out.old)) (counts (F.faults files.new) (E.faults env.new) (K.faults out.new)) result }
     ensures given { result ≡ Err halt.Read → IsGiven (Some mode) (F.last files.new) }
     ensures seals { result ≡ Err halt.Seal → MaySeal (Some mode) }
-    ensures no_usage { result ≢ Ok ending.Usage }
 {
     match mode {
         Mode::Check(policy) => check_file(alloc, policy, files, out),
