@@ -1,5 +1,5 @@
 -- Replicas that are opened one after another.
-use Rattle.std.proofs.Common.{◌≡◌, ℕ, suc, ◌+◌, ◌<◌, ◌≤◌, List, [], ◌∷◌, ◌++◌, add-one, drop, drop-cons, get_or, length, map, refl, sym, ap, subst, ◌∙◌, append_assoc, append-nil, arith, length-append}
+use Rattle.std.proofs.Common.{◌≡◌, ℕ, suc, ◌+◌, ◌<◌, ◌≤◌, List, Option, [], ◌∷◌, ◌++◌, add-one, drop, drop-cons, get_or, length, map, refl, sym, ap, subst, ◌∙◌, append_assoc, append-nil, arith, length-append}
 use Rattle.std.specs.List.{All, remove}
 use Rattle.std.proofs.lemmas.List.{length-map, map-append}
 use Rattle.std.proofs.lemmas.List.Elements.{All-head, All-tail}
@@ -7,7 +7,7 @@ use Rattle.outside.specs.Envelope.{author_id}
 use Rattle.policy_ast.specs.declared.policy.PlacedItem.{PlacedItem}
 use Rattle.replica.specs.Kept.{begun}
 use Rattle.script_texts.specs.Bytes.{Bytes}
-use Rattle.world.specs.Worlds.{Named, begun_on}
+use Rattle.world.specs.Worlds.{Named, Site, begun_on, opened}
 use Rattle.world.specs.working.Opening.{Opens, begun_by}
 
 -- the first is taken off
@@ -66,3 +66,12 @@ one_policy {D = D} rules policy (r ∷ runners) digest (name ∷ names) (disk �
     ap (λ p. record { name = name; kept = begun p digest (author_id name) disk } ∷ begun_by (map rules runners) digest names disks) same
     ∙ ap (λ (rs : List (Named D)). record { name = name; kept = begun policy digest (author_id name) disk } ∷ rs)
         (one_policy rules policy runners digest names disks (omega (arith, counted)) (All-tail (λ x. rules x ≡ policy) r runners each))
+
+-- what was opened is the world as a run begins
+pub opened_as : {A D : Type 0} (rules : A → List PlacedItem) (policy : List PlacedItem) (runners : List A) (digest : List ℕ) (names : List Bytes) (disks : List D) (replicas : List (Named D)) (messages : List (Option (List ℕ)))
+    (spare : List D) → length runners ≡ length names → All (λ r. rules r ≡ policy) runners → replicas ≡ begun_by (map rules runners) digest names disks → messages ≡ [] → spare ≡ drop (length names) disks
+    → ◌≡◌ {A = Site D} record { replicas = replicas; messages = messages; spare = spare } (opened policy digest names disks)
+opened_as {D = D} rules policy runners digest names disks replicas messages spare counted each begun none behind =
+    ap (λ (rs : List (Named D)). record { replicas = rs; messages = messages; spare = spare }) (begun ∙ one_policy rules policy runners digest names disks counted each)
+    ∙ ap (λ (ms : List (Option (List ℕ))). record { replicas = begun_on policy digest names disks; messages = ms; spare = spare }) none
+    ∙ ap (λ (ds : List D). record { replicas = begun_on policy digest names disks; messages = []; spare = ds }) behind
