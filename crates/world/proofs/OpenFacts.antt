@@ -1,5 +1,5 @@
 -- Replicas that are opened one after another.
-use Rattle.std.proofs.Common.{◌≡◌, ℕ, suc, ◌+◌, ◌<◌, ◌≤◌, List, Option, [], ◌∷◌, ◌++◌, add-one, drop, drop-cons, get_or, length, map, refl, sym, ap, subst, ◌∙◌, append_assoc, append-nil, arith, length-append}
+use Rattle.std.proofs.Common.{◌≡◌, ℕ, suc, ◌+◌, ◌<◌, ◌≤◌, List, Option, [], ◌∷◌, ◌++◌, add-one, drop, drop-cons, get_or, length, map, refl, sym, ap, subst, ◌∙◌, append_assoc, arith, length-append}
 use Rattle.std.specs.List.{All, remove}
 use Rattle.std.proofs.lemmas.List.{length-map, map-append}
 use Rattle.std.proofs.lemmas.List.Elements.{All-head, All-tail}
@@ -20,7 +20,7 @@ name_at : (names : List Bytes) (i : ℕ) (name : Bytes) → i < length names →
 name_at names i name inside is = drop-cons names i name inside ∙ ap (λ l. l ∷ drop (suc i) names) (sym is) ∙ rw add-one refl
 
 module _ {D : Type 0} (all : List (Named D)) (spare disks : List D) (digest : List ℕ) where
-  pub opens_on : (room wide more_room more_wide : ℕ) (replicas : List (Named D)) (policy : List PlacedItem) (policies : List (List PlacedItem)) (name : Bytes) (names : List Bytes) (disk : D) (left : List D)
+  opens_on : (room wide more_room more_wide : ℕ) (replicas : List (Named D)) (policy : List PlacedItem) (policies : List (List PlacedItem)) (name : Bytes) (names : List Bytes) (disk : D) (left : List D)
       → room ≤ more_room → wide ≤ more_wide → Opens all spare disks room wide replicas (policy ∷ policies) digest (name ∷ names) (disk ∷ left)
       → Opens all spare disks more_room more_wide (replicas ++ record { name = name; kept = begun policy digest (author_id name) disk } ∷ []) policies digest names left
   opens_on room wide more_room more_wide replicas policy policies name names disk left up wider opens =
@@ -49,10 +49,6 @@ module _ {D : Type 0} (all : List (Named D)) (spare disks : List D) (digest : Li
       let on = subst (λ ds. Opens all spare disks room wide replicas (rules runner ∷ map rules behind) digest (name ∷ drop (i + 1) names) ds) (first_off left rest disk enough front later) by in
       subst (λ rs. Opens all spare disks more_room more_wide rs (map rules behind) digest (drop (i + 1) names) rest) (sym (added ∙ ap (λ r. replicas ++ r ∷ []) made))
       (opens_on room wide more_room more_wide replicas (rules runner) (map rules behind) name (drop (i + 1) names) disk rest up wider on)
-
-  pub opened_whole : (room wide : ℕ) (replicas : List (Named D)) (policies : List (List PlacedItem)) (left : List D) → Opens all spare disks room wide replicas policies digest [] left → replicas ≡ all
-  opened_whole room wide replicas [] left opens = sym (append-nil replicas) ∙ opens.whole
-  opened_whole room wide replicas (policy ∷ policies) left opens = sym (append-nil replicas) ∙ opens.whole
 
 -- all under one policy
 pub one_policy : {A D : Type 0} (rules : A → List PlacedItem) (policy : List PlacedItem) (runners : List A) (digest : List ℕ) (names : List Bytes) (disks : List D)
