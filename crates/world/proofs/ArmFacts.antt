@@ -1,5 +1,5 @@
 -- What a line's function says of its own line is what is asked of every line.
-use Rattle.std.proofs.Common.{◌≡◌, ◌≤◌, ℕ, ◌+◌, false, true, List, codes, length, Option, Result, Ok, Err, refl, sym, ap, subst, ◌∙◌}
+use Rattle.std.proofs.Common.{◌≡◌, false, true, List, codes, length, Option, Result, Ok, Err, refl, sym, ap, subst, ◌∙◌}
 use Rattle.std.proofs.lemmas.List.{length-map}
 use Rattle.base_bytes.specs.declared.arg.Arg.{Arg}
 use Rattle.replica.specs.Calls.{ActsIn, Begins}

@@ -1,4 +1,3 @@
-use Rattle.std.proofs.Common.{◌≡◌, refl}
 use Rattle.world.proofs.ArmFacts.{act_arm, init_arm, join_arm, sync_arm}
 use Rattle.world.proofs.running.changing_line.Goals as goal
 

@@ -1,4 +1,4 @@
-use Rattle.std.proofs.Common.{◌≡◌, ◌≤◌, ◌+◌, length, vec_capacity, sym, subst}
+use Rattle.std.proofs.Common.{◌≤◌, ◌+◌, length, vec_capacity, sym, subst}
 use Rattle.world.proofs.ArmFacts.{as_many, site_runs}
 use Rattle.world.proofs.world.World.run_changing.Goals as goal
 
