@@ -1,8 +1,7 @@
 -- A call changes a replica as its line says, or not at all.
 use Rattle.std.proofs.Common.{◌≡◌, ◌⊎◌, inl, inr, ℕ, Bool, List, [], ◌∷◌, codes, length, Option, Some, Result, Ok, Err, IfOk, refl, sym, ap, subst, ◌∙◌}
-use Rattle.replica.specs.Calls.{ActsIn, Answers, Asks, AsksNext, Begins, IsActionOf, IsTakeOf, Joins, TakesIn}
+use Rattle.replica.specs.Calls.{ActsIn, Answers, Asks, AsksNext, Begins, Joins, TakesIn}
 use Rattle.replica.specs.Kept.{Kept}
-use Rattle.replica.specs.Steps.{IsStep}
 use Rattle.replica.specs.declared.counts.Published.{Published}
 use Rattle.replica.specs.declared.counts.Taken.{Taken}
 use Rattle.replica.specs.declared.refusal.Refusal.{Refusal}
@@ -11,7 +10,7 @@ use Rattle.sync_codec.specs.Messages.{IsResponse}
 use Rattle.sync_codec.specs.declared.response.Response.{Response}
 use Rattle.transaction.specs.Acting.{Request as Action}
 use Rattle.world.specs.Lines.{JoinsGraph, RunsAction, RunsJoin, RunsRestart, RunsTake, SaysAnswer, SaysAsk, SaysNext, Tags, graph_to_join}
-use Rattle.world.specs.Replies.{IsAnswerLine, asked_line, joined_line, message_of, next_line, next_message_of, published_line, refused_line, restarted_line, taken_line}
+use Rattle.world.specs.Replies.{asked_line, joined_line, message_of, next_line, next_message_of, published_line, refused_line, restarted_line, taken_line}
 use Rattle.world.specs.Worlds.{Changes, Named, Of, with_kept}
 use Rattle.world.specs.declared.said.Said.{Said}
 use Rattle.world.specs.declared.stop.RunStop.{RunStop}

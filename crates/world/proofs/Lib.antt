@@ -5,5 +5,6 @@ mod KeepFacts
 mod LineFacts
 mod ChangeFacts
 mod OpenFacts
+mod ArmFacts
 mod RoundFacts
 mod SessionStops

@@ -1,12 +1,12 @@
 -- A line runs in a world where it runs on its replicas and messages; and what it keeps.
-use Rattle.std.proofs.Common.{rules, arith, codes, nat_lt, ◌<◌, ◌≡◌, ◌⊎◌, inl, inr, ℕ, ◌+◌, Bool, true, false, List, [], ◌∷◌, ◌++◌, length, map, Option, Result, Ok, Err, OnOk, refl, sym, ap, subst, ◌∙◌, length-append}
+use Rattle.std.proofs.Common.{rules, arith, codes, nat_lt, ◌<◌, ◌≡◌, ◌⊎◌, inl, inr, ◌+◌, true, false, List, [], ◌∷◌, ◌++◌, length, map, Option, Result, Ok, Err, OnOk, refl, ap, ◌∙◌, length-append}
 use Rattle.std.proofs.lemmas.Bool.{and_parts}
 use Rattle.std.proofs.lemmas.Bool.Decides.{nat_tests}
 use Rattle.script.specs.Scripts.{with_line}
 use Rattle.script.specs.declared.line.Line.{Line}
 use Rattle.script.specs.declared.line.Line.TheVariants as line
 use Rattle.script_texts.specs.Bytes.{Bytes}
-use Rattle.world.specs.Lines.{KeepsRest, Makes, Runs, Tags, action_of, may_run}
+use Rattle.world.specs.Lines.{KeepsRest, Runs, Tags, action_of, may_run}
 use Rattle.world.specs.Stops.{LeavesFront, RunsOrStops, SomeOf, Steps, Stops}
 use Rattle.world.specs.Worlds.{Named, Site, declared, disks_of, site_of, with_message}
 use Rattle.world.specs.declared.said.Said.{Said}
