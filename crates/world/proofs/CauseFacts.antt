@@ -1,5 +1,5 @@
 -- What stops a line, by the refusal of its call.
-use Rattle.std.proofs.Common.{◌≡◌, ◌⊎◌, inl, inr, ℕ, Bool, true, false, if◌then◌else◌, List, Option, Some, None, Result, Ok, Err, IfErr, refl, sym, ap, subst, ◌∙◌}
+use Rattle.std.proofs.Common.{◌≡◌, inl, inr, ℕ, Bool, true, false, if◌then◌else◌, List, Option, Some, None, Result, Ok, Err, IfErr, refl, sym, ap, subst, ◌∙◌}
 use Rattle.std.specs.Str.{bytes_eq}
 use Rattle.outside.specs.Causes.{Rose}
 use Rattle.replica.specs.Actions.{IsFault}
@@ -16,7 +16,7 @@ use Rattle.transaction.specs.declared.fault.ActFault.{ActFault}
 use Rattle.transaction.specs.declared.fault.ActFault.TheVariants as fault
 use Rattle.world.specs.Lines.{graph_to_join}
 use Rattle.world.specs.Stops.{HasCause, IsStopBy}
-use Rattle.world.specs.Worlds.{Changes, Named, Of}
+use Rattle.world.specs.Worlds.{Changes, Named}
 use Rattle.world.specs.declared.stop.RunStop.{RunStop}
 use Rattle.world.specs.declared.stop.RunStop.TheVariants as stop
 use Rattle.world.specs.working.Words.{IsStopped, Words, WordsBy}

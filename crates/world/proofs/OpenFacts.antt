@@ -61,7 +61,7 @@ one_policy {D = D} rules policy (r ∷ runners) digest (name ∷ names) (disk �
     let same : rules r ≡ policy = All-head (λ x. rules x ≡ policy) r runners each in
     ap (λ p. record { name = name; kept = begun p digest (author_id name) disk } ∷ begun_by (map rules runners) digest names disks) same
     ∙ ap (λ (rs : List (Named D)). record { name = name; kept = begun policy digest (author_id name) disk } ∷ rs)
-        (one_policy rules policy runners digest names disks (omega (arith, counted)) (All-tail (λ x. rules x ≡ policy) r runners each))
+    (one_policy rules policy runners digest names disks (omega (arith, counted)) (All-tail (λ x. rules x ≡ policy) r runners each))
 
 -- what was opened is the world as a run begins
 pub opened_as : {A D : Type 0} (rules : A → List PlacedItem) (policy : List PlacedItem) (runners : List A) (digest : List ℕ) (names : List Bytes) (disks : List D) (replicas : List (Named D)) (messages : List (Option (List ℕ)))

@@ -1,6 +1,5 @@
 -- The replica of a name, by its place.
-use Rattle.std.proofs.Common.{◌≡◌, ℕ, suc, Bool, true, false, ◌||◌, cond, List, [], ◌∷◌, find, get_or, set, Option, Some, option_map, refl, sym, ap, subst, ◌∙◌}
-use mathlib.Core.Option.{some-injective}
+use Rattle.std.proofs.Common.{◌≡◌, ℕ, suc, Bool, true, false, ◌||◌, cond, List, [], ◌∷◌, find, get_or, set, Some, option_map, sym, ap, subst, ◌∙◌}
 use Rattle.std.specs.Str.{bytes_eq}
 use Rattle.replica.specs.Kept.{Kept}
 use Rattle.script_texts.specs.Bytes.{Bytes}

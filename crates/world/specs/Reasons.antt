@@ -1,5 +1,5 @@
 -- Why a line or a command was refused, as texts name it.
-use Rattle.std.specs.Prelude.{ℕ, List, map, Option, Some, None}
+use Rattle.std.specs.Prelude.{List, map, Option, Some, None}
 use Rattle.accept.specs.Takes as takes
 use Rattle.accept.specs.declared.answer.Reason.{Reason}
 use Rattle.accept.specs.declared.answer.Reason.TheVariants as reason

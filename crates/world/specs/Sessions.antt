@@ -1,8 +1,7 @@
 -- A session of two replicas: `sync A B`.
-use Rattle.std.specs.Prelude.{◌≡◌, ℕ, ◌+◌, Bool, List, [], ◌∷◌, ◌++◌, length, codes, Option, Some, None, Result, Ok, Err}
+use Rattle.std.specs.Prelude.{ℕ, ◌+◌, Bool, List, [], ◌∷◌, ◌++◌, length, codes, Option, Some, None, Result, Ok, Err}
 use Rattle.accept.specs.Takes as takes
 use Rattle.replica.specs.Calls.{Answers, Asks, AsksNext, TakesIn}
-use Rattle.replica.specs.Kept.{Kept}
 use Rattle.replica.specs.declared.counts.Taken.{Taken}
 use Rattle.replica.specs.declared.refusal.Refusal.{Refusal}
 use Rattle.script_texts.specs.Bytes.{Bytes}

@@ -1,5 +1,5 @@
 -- Lines by what they may change.
-use Rattle.std.specs.Prelude.{◌≡◌, Bool, true, false, ◌||◌, not, Option, Result, Ok, Err}
+use Rattle.std.specs.Prelude.{◌≡◌, Bool, true, false, ◌||◌, not, Result, Ok, Err}
 use Rattle.script.specs.declared.line.Line.{Line}
 use Rattle.script.specs.declared.line.Line.TheVariants as line
 use Rattle.script_texts.specs.Bytes.{Bytes}

@@ -1,5 +1,5 @@
 -- What the functions that put replies into words say.
-use Rattle.std.specs.Prelude.{◌≡◌, ◌⊎◌, ℕ, List, Option, Some, None, Result, Ok, Err}
+use Rattle.std.specs.Prelude.{◌≡◌, ◌⊎◌, ℕ, Option, Some, None, Result, Ok, Err}
 use Rattle.replica.specs.declared.refusal.Refusal.{Refusal}
 use Rattle.script_texts.specs.Bytes.{Bytes}
 use Rattle.world.specs.Replies.{IsAnswerLine}

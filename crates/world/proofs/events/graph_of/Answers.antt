@@ -1,4 +1,3 @@
-use Rattle.std.proofs.Common.{rules, ◌≡◌, Some}
 use Rattle.world.proofs.events.graph_of.Goals as goal
 
 pub returns : goal.returns

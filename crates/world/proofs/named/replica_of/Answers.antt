@@ -1,4 +1,3 @@
-use Rattle.std.proofs.Common.{◌≡◌}
 use Rattle.world.proofs.PlaceFacts.{kept_there}
 use Rattle.world.proofs.named.replica_of.Goals as goal
 

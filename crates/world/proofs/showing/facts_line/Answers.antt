@@ -1,4 +1,4 @@
-use Rattle.std.proofs.Common.{rules, ◌≡◌, Some}
+use Rattle.std.proofs.Common.{rules}
 use Rattle.world.proofs.showing.facts_line.Goals as goal
 
 pub returns : goal.returns

@@ -1,4 +1,4 @@
-use Rattle.std.proofs.Common.{◌≡◌, ap, ◌∙◌}
+use Rattle.std.proofs.Common.{ap, ◌∙◌}
 use Rattle.state_texts.specs.States.{graph_text}
 use Rattle.world.proofs.showing.graph_line.Goals as goal
 

@@ -1,4 +1,4 @@
-use Rattle.std.proofs.Common.{◌≡◌, ap, length, ◌∙◌}
+use Rattle.std.proofs.Common.{ap, length, ◌∙◌}
 use Rattle.script_texts.specs.Replies.{replica_text}
 use Rattle.world.proofs.showing.replica_line.Goals as goal
 
