@@ -13,7 +13,7 @@ use Rattle.world.specs.declared.stop.RunStop.TheVariants as stop
 use Rattle.aranyad.specs.Checking.{Reads}
 use Rattle.aranyad.specs.Loading.{Holds}
 use Rattle.aranyad.specs.Printing.{Goes, Prints, Says}
-use Rattle.aranyad.specs.Scripts.{RanUpTo, Ran, RunsLines}
+use Rattle.aranyad.specs.Scripts.{RanUpTo, Ran, RunsLines, RunsOpened}
 use Rattle.aranyad.specs.Scripts as scripts
 use Rattle.aranyad.specs.Written.{WritesFront}
 use Rattle.aranyad.specs.working.Following.{HaltsBy}
@@ -133,3 +133,9 @@ front_as t u old new same front = subst (λ x. WritesFront x old new) same front
 
 pub printed_as : (t u : List ℕ) (old new : Option (List ℕ)) → t ≡ u → new ≡ append_known old t → new ≡ append_known old u
 printed_as t u old new same printed = printed ∙ ap (append_known old) same
+
+-- the lines ran in the world that was opened
+pub opened_goes : {D : Type 0} (tags : Tags) (first world now : Site D) (lines : List Line) (result : Result Ending Halt) (old new : Option (List ℕ)) → world ≡ first →
+    Goes (λ r ts. RunsLines tags world lines r ts now) result old new → Goes (RunsOpened tags first lines) result old new
+opened_goes tags first world now lines result old new same goes =
+    record { texts = goes.texts; is = inr (now, subst (λ w. RunsLines tags w lines result goes.texts now) same goes.is); printed = goes.printed }

@@ -1,7 +1,7 @@
 //! `aranyad`: replicas of a command graph under a policy, in one process.
 #![tactic(auto)]
 
-ghost use Rattle.std.specs.Prelude.{◌≡◌, IfOk, vec_len};
+ghost use Rattle.std.specs.Prelude.{◌≡◌, IfOk, length};
 
 mod choose;
 mod ending;
@@ -29,10 +29,10 @@ use std::process::ExitCode;
 
 /// Eight empty disks in memory.
 fn empty_disks(alloc: Global) -> Result<Vec<MemoryDisk>, NoMemory>
-    ensures { IfOk result (λ disks. vec_len disks ≡ 8) }
+    ensures { IfOk result (λ disks. length disks.items ≡ 8) }
 {
     let mut disks = Vec::new(alloc);
-    while disks.len() < 8 {
+    for _ in 0..8 {
         disks.push(MemoryDisk::new(alloc, Bytes::new(alloc), Vec::new(alloc)))?;
     }
     Ok(disks)

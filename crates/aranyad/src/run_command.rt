@@ -1,4 +1,4 @@
-ghost use Rattle.std.specs.Prelude.{◌≡◌, ◌≢◌, ℕ, None, Some, Ok, Err, IfSome, MatchOption, vec_len};
+ghost use Rattle.std.specs.Prelude.{◌≡◌, ◌≢◌, ℕ, None, Some, Ok, Err, IfSome, MatchOption, length};
 ghost use Rattle.script_texts.specs.Modes as modes;
 ghost use Rattle.world.specs.Lines.{Tags};
 ghost use Rattle.aranyad.specs.Ending.{HasCause, HaltsWithCause, IsGiven, MaySeal, counts, status_of};
@@ -29,7 +29,7 @@ fn run_mode<F: Files, D: Disk, E: Envelope, K: Sink>(
     env: &mut E,
     out: &mut K,
 ) -> Result<Ending, Halt>
-    requires enough { vec_len disks.old ≡ 8 }
+    requires enough { length disks.old.items ≡ 8 }
     ensures goes { IfSome (F.holds files.old) (λ at. Goes (RunsMode (record { good = E.good; told = E.tag_of }) disks.old.items at (Some mode)) result (K.written out.old) (K.written out.new)) }
     ensures disks { disks.new.items ≡ disks.old.items }
     ensures cause { HaltsWithCause (counts (F.faults files.old) (E.faults env.old) (K.faults out.old)) (counts (F.faults files.new) (E.faults env.new) (K.faults out.new)) result }
@@ -53,7 +53,7 @@ fn run_words<F: Files, D: Disk, E: Envelope, K: Sink>(
     env: &mut E,
     out: &mut K,
 ) -> Result<Ending, Halt>
-    requires enough { vec_len disks.old ≡ 8 }
+    requires enough { length disks.old.items ≡ 8 }
     ensures goes { IfSome (F.holds files.old) (λ at. Goes (RunsMode (record { good = E.good; told = E.tag_of }) disks.old.items at (mode_of words.now)) result (K.written out.old) (K.written out.new)) }
     ensures disks { disks.new.items ≡ disks.old.items }
     ensures cause { HasCause (mode_of words.now) (counts (F.faults files.old) (E.faults env.old) (K.faults out.old)) (counts (F.faults files.new) (E.faults env.new) (K.faults out.new)) (F.last files.new) (status_of result) }
@@ -77,7 +77,7 @@ pub fn run_command<F: Files, D: Disk, E: Envelope, K: Sink>(
     env: &mut E,
     out: &mut K,
 ) -> Status
-    requires enough { vec_len disks.old ≡ 8 }
+    requires enough { length disks.old.items ≡ 8 }
     // The status and all that is printed are the model's: to the end, or to where a device failed or memory ran out.
     ensures run { IfSome (F.holds files.old) (λ at. IsRun (record { good = E.good; told = E.tag_of }) disks.old.items at words.now result (K.written out.old) (K.written out.new)) }
     // Each status has its cause, whatever the devices tell.

@@ -1,6 +1,6 @@
 //! The lines of a script, run in a world of the replicas that they declare.
 
-ghost use Rattle.std.specs.Prelude.{◌≡◌, ◌⊎◌, ◌<◌, ◌≤◌, ℕ, List, Ok, Err, IfOk, length, vec_len};
+ghost use Rattle.std.specs.Prelude.{◌≡◌, ◌⊎◌, ◌<◌, ◌≤◌, ℕ, List, Ok, Err, IfOk, length};
 ghost use Rattle.outside.specs.Causes.{Rose};
 ghost use Rattle.world.specs.Lines.{Tags};
 ghost use Rattle.world.specs.Worlds.{Site, disks_of, opened};
@@ -84,7 +84,7 @@ pub fn run_world<D: Disk, E: Envelope, K: Sink, L: Ledger>(
     requires name { blank.name ≡ L.name }
     requires parts { blank.parts ≡ L.parts }
     requires some { 0 < L.parts }
-    requires enough { vec_len disks.old ≡ 8 }
+    requires enough { length disks.old.items ≡ 8 }
     requires script { (bytes : List ℕ) × IsScript bytes lines.now }
     ensures goes { Goes (RunsOpened (record { good = E.good; told = E.tag_of }) (opened policy digest.now (names_of lines.now) disks.old.items) lines.now) result (K.written out.old) (K.written out.new) }
     ensures disks { disks.new.items ≡ disks.old.items }

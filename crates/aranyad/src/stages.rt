@@ -1,6 +1,6 @@
 //! The mode `run`, stage by stage: each stage gives a value, and touches the devices that it needs.
 
-ghost use Rattle.std.specs.Prelude.{◌≡◌, ◌⊎◌, Some, Err, IfSome, vec_len};
+ghost use Rattle.std.specs.Prelude.{◌≡◌, ◌⊎◌, Some, Err, IfSome, length};
 ghost use Rattle.world.specs.Lines.{Tags};
 ghost use Rattle.aranyad.specs.Ending.{HaltsWithCause, LinesHalt, counts};
 ghost use Rattle.aranyad.specs.Loading.{ArePlaced, limited, policy_limit, script_limit};
@@ -31,7 +31,7 @@ fn run_script<D: Disk, E: Envelope, K: Sink>(
     env: &mut E,
     out: &mut K,
 ) -> Result<Ending, Halt>
-    requires enough { vec_len disks.old ≡ 8 }
+    requires enough { length disks.old.items ≡ 8 }
     requires placed { ArePlaced script.now }
     ensures goes { Goes (RunsWorld (record { good = E.good; told = E.tag_of }) disks.old.items digest.now policy script.now) result (K.written out.old) (K.written out.new) }
     ensures disks { disks.new.items ≡ disks.old.items }
@@ -64,7 +64,7 @@ fn run_whole<F: Files, D: Disk, E: Envelope, K: Sink>(
     env: &mut E,
     out: &mut K,
 ) -> Result<Ending, Halt>
-    requires enough { vec_len disks.old ≡ 8 }
+    requires enough { length disks.old.items ≡ 8 }
     ensures goes { IfSome (F.holds files.old) (λ at. Goes (RunsScriptFile (record { good = E.good; told = E.tag_of }) disks.old.items (limited script_limit (at script)) digest.now policy)
         result (K.written out.old) (K.written out.new)) }
     ensures disks { disks.new.items ≡ disks.old.items }
@@ -87,7 +87,7 @@ fn run_loaded<F: Files, D: Disk, E: Envelope, K: Sink>(
     env: &mut E,
     out: &mut K,
 ) -> Result<Ending, Halt>
-    requires enough { vec_len disks.old ≡ 8 }
+    requires enough { length disks.old.items ≡ 8 }
     ensures goes { IfSome (F.holds files.old) (λ at. Goes (RunsPolicy (record { good = E.good; told = E.tag_of }) disks.old.items (limited script_limit (at script)) policy)
         result (K.written out.old) (K.written out.new)) }
     ensures disks { disks.new.items ≡ disks.old.items }
@@ -113,7 +113,7 @@ pub fn run_files<F: Files, D: Disk, E: Envelope, K: Sink>(
     env: &mut E,
     out: &mut K,
 ) -> Result<Ending, Halt>
-    requires enough { vec_len disks.old ≡ 8 }
+    requires enough { length disks.old.items ≡ 8 }
     ensures goes { IfSome (F.holds files.old) (λ at. Goes (RunsFiles (record { good = E.good; told = E.tag_of }) disks.old.items (limited policy_limit (at policy)) (limited script_limit (at script)))
         result (K.written out.old) (K.written out.new)) }
     ensures disks { disks.new.items ≡ disks.old.items }
