@@ -2,11 +2,18 @@
 mod checks;
 mod devices;
 mod documents;
+mod documents_of_rows;
 mod limits;
+mod long_session_rows;
 mod narrow_sink;
 mod numbering_envelope;
+mod order_rows;
+mod refusal_rows;
 mod rows;
 mod scripts;
+mod session_rows;
+mod team_rows;
+mod value_rows;
 mod words;
 
 use crate::run_command::run_command;
@@ -158,7 +165,17 @@ fn policies_are_judged_without_a_script(rt: HostRuntime) -> Result<(), Fail> {
 
 #[test]
 fn scripts_run_or_are_refused(rt: HostRuntime) -> Result<(), Fail> {
-    assert_rows(&rt, rt.alloc(), &scripts::ROWS)?;
+    for rows in [
+        scripts::ROWS.as_slice(),
+        team_rows::ROWS.as_slice(),
+        order_rows::ROWS.as_slice(),
+        session_rows::ROWS.as_slice(),
+        long_session_rows::ROWS.as_slice(),
+        value_rows::ROWS.as_slice(),
+        refusal_rows::ROWS.as_slice(),
+    ] {
+        assert_rows(&rt, rt.alloc(), rows)?;
+    }
     Ok(())
 }
 

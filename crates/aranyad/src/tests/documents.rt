@@ -1,7 +1,7 @@
 // Documents that are refused.
 
 /// Each with its name, its text, the bytes that stand behind the text, and what is printed.
-pub const REFUSED: [(&str, &str, &[u8], &[&str]); 29] = [
+pub const REFUSED: [(&str, &str, &[u8], &[&str]); 22] = [
     // Faults of a document and their lines.
     (
         "a byte that belongs to no character",
@@ -114,7 +114,7 @@ pub const REFUSED: [(&str, &str, &[u8], &[&str]); 29] = [
         &["policy refused: syntax, line 6\n"],
     ),
     (
-        "syntax before what is small",
+        "a symbol behind a whole item",
         "---\npolicy-version: 2\n---\n```policy\nenum A { X }\n}\n```\n",
         b"",
         &["policy refused: syntax, line 6\n"],
@@ -137,48 +137,5 @@ pub const REFUSED: [(&str, &str, &[u8], &[&str]); 29] = [
         "---\npolicy-version: 2\n---\n```policy\nfact Item[n int]=>{by id}\ncommand Start { attributes { init: true } fields { } seal { return envelope::do_seal(serialize(this)) } open { return deserialize(envelope::do_open(envelope)) } policy { finish { } } }\naction start(n int) { publish Start { n: n } }\n```\n",
         b"",
         &["policy refused: type, line 7\n"],
-    ),
-    // Documents that spell well-typed items, and are no small policy.
-    (
-        "no block",
-        "---\npolicy-version: 2\n---\n",
-        b"",
-        &["policy refused: unbuilt\n"],
-    ),
-    (
-        "an enum",
-        "---\npolicy-version: 2\n---\n```policy\nenum A { X }\n```\n",
-        b"",
-        &["policy refused: unbuilt\n"],
-    ),
-    (
-        "no command",
-        "---\npolicy-version: 2\n---\n```policy\nfact Item[n int]=>{by id}\n```\n",
-        b"",
-        &["policy refused: unbuilt\n"],
-    ),
-    (
-        "a start that is none",
-        "---\npolicy-version: 2\n---\n```policy\nfact Item[n int]=>{by id}\ncommand Start { attributes { init: false } fields { } seal { return envelope::do_seal(serialize(this)) } open { return deserialize(envelope::do_open(envelope)) } policy { finish { } } }\n```\n",
-        b"",
-        &["policy refused: unbuilt\n"],
-    ),
-    (
-        "an immutable fact",
-        "---\npolicy-version: 2\n---\n```policy\nimmutable fact Item[n int]=>{by id}\ncommand Start { attributes { init: true } fields { } seal { return envelope::do_seal(serialize(this)) } open { return deserialize(envelope::do_open(envelope)) } policy { finish { } } }\n```\n",
-        b"",
-        &["policy refused: unbuilt\n"],
-    ),
-    (
-        "a fact too many",
-        "---\npolicy-version: 2\n---\n```policy\nfact Item[n int]=>{by id}\nfact Other[n int]=>{by id}\ncommand Start { attributes { init: true } fields { } seal { return envelope::do_seal(serialize(this)) } open { return deserialize(envelope::do_open(envelope)) } policy { finish { } } }\n```\n",
-        b"",
-        &["policy refused: unbuilt\n"],
-    ),
-    (
-        "an action that publishes nothing",
-        "---\npolicy-version: 2\n---\n```policy\nfact Item[n int]=>{by id}\ncommand Start { attributes { init: true } fields { } seal { return envelope::do_seal(serialize(this)) } open { return deserialize(envelope::do_open(envelope)) } policy { finish { } } }\naction start() { }\n```\n",
-        b"",
-        &["policy refused: unbuilt\n"],
     ),
 ];
