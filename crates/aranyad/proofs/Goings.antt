@@ -1,5 +1,5 @@
 -- How parts of a run go, one after another.
-use Rattle.std.proofs.Common.{◌≡◌, ◌⊎◌, ℕ, List, [], ◌∷◌, ◌++◌, Option, Some, None, Result, Ok, Err, refl, sym, ap, subst, ◌∙◌, inl, inr, append_assoc}
+use Rattle.std.proofs.Common.{◌≡◌, ◌⊎◌, ℕ, suc, ◌+◌, ◌<◌, add-one, drop, drop-cons, get_or, length, List, [], ◌∷◌, ◌++◌, Option, Some, None, Result, Ok, Err, refl, sym, ap, subst, ◌∙◌, inl, inr, append_assoc}
 use Rattle.std.specs.Prelude.{IfOk, IfSome}
 use Rattle.std.specs.Io.KnownBytes.{append_known}
 use Rattle.std.specs.List.{concat}
@@ -10,11 +10,11 @@ use Rattle.world.specs.Stops.{Acts, LeavesFront}
 use Rattle.world.specs.Worlds.{Site}
 use Rattle.world.specs.declared.stop.RunStop.{RunStop}
 use Rattle.world.specs.declared.stop.RunStop.TheVariants as stop
-use Rattle.aranyad.specs.Ending.{HaltsBy}
 use Rattle.aranyad.specs.Printing.{Goes, Prints, Says}
 use Rattle.aranyad.specs.Scripts.{RanUpTo, Ran, RunsLines}
 use Rattle.aranyad.specs.Scripts as scripts
 use Rattle.aranyad.specs.Written.{WritesFront}
+use Rattle.aranyad.specs.working.Following.{HaltsBy}
 use Rattle.aranyad.specs.declared.ending.Ending.{Ending}
 use Rattle.aranyad.specs.declared.ending.Ending.TheVariants as ending
 use Rattle.aranyad.specs.declared.ending.Halt.{Halt}
@@ -77,7 +77,7 @@ module _ {D : Type 0} (tags : Tags) (first : Site D) (lines : List Line) (old : 
   one_more one behind texts text mid now up_to runs = record {
     done = up_to.done ++ one ∷ [];
     whole = append_assoc up_to.done (one ∷ []) behind ∙ up_to.whole;
-    ran = scripts.more up_to.ran runs;
+    ran = scripts.more one text up_to.ran runs;
   }
 
   pub line_printed : (one : Line) (behind : List Line) (text : List ℕ) (mid now : Site D) (seen new : Option (List ℕ)) → SoFar tags first lines old (one ∷ behind) mid seen → Runs tags mid one text now →
@@ -110,3 +110,9 @@ module _ {D : Type 0} (tags : Tags) (first : Site D) (lines : List Line) (old : 
   pub lines_done : (left : List Line) (now : Site D) (seen : Option (List ℕ)) → left ≡ [] → SoFar tags first lines old left now seen → Goes (λ r ts. RunsLines tags first lines r ts now) (Ok ending.Done) old seen
   lines_done left now seen none so_far =
       record { texts = so_far.texts; is = (refl, subst (λ l. RanUpTo tags first lines l so_far.texts now) none so_far.up_to); printed = so_far.printed }
+
+-- ---- the line at hand
+
+-- the lines that are left are the one at hand and those behind it
+pub at_hand : (lines : List Line) (i : ℕ) (one : Line) → i < length lines → one ≡ get_or lines i one → drop i lines ≡ one ∷ drop (i + 1) lines
+at_hand lines i one inside is = drop-cons lines i one inside ∙ ap (λ l. l ∷ drop (suc i) lines) (sym is) ∙ rw add-one refl

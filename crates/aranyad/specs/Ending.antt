@@ -1,8 +1,6 @@
 -- How a run ends, by its statuses; and which counts must have risen where it was halted.
 use Rattle.std.specs.Prelude.{◌≡◌, ◌≢◌, ◌⊎◌, ℕ, ◌≤◌, List, Option, Some, None, Result, Ok, Err}
 use Rattle.outside.specs.Causes.{Rose}
-use Rattle.world.specs.declared.stop.RunStop.{RunStop}
-use Rattle.world.specs.declared.stop.RunStop.TheVariants as stop
 use Rattle.aranyad.specs.declared.ending.Ending.{Ending}
 use Rattle.aranyad.specs.declared.ending.Ending.TheVariants as ending
 use Rattle.aranyad.specs.declared.ending.Halt.{Halt}
@@ -28,13 +26,6 @@ halt_status halt.Memory = status.NoMemory
 abbrev pub status_of : Result Ending Halt → Status
 status_of (Ok end) = ending_status end
 status_of (Err why) = halt_status why
-
--- What a stop of the world halts a run with. No disk is used yet, and no journal read.
-abbrev pub HaltsBy : RunStop → Halt → Type 0
-HaltsBy stop.DiskFault why = ⊥
-HaltsBy stop.SealFault why = why ≡ halt.Seal
-HaltsBy (stop.Journal name fault) why = ⊥
-HaltsBy stop.NoMemory why = why ≡ halt.Memory
 
 -- The counts of faults of the files, of the envelope and of the sink.
 pub record Counts : Type 0 where
@@ -68,6 +59,13 @@ pub record WriteHalts {T : Type 0} (old new : ℕ) (result : Result T Halt) : Ty
   pub no_read : result ≢ Err halt.Read
   pub no_seal : result ≢ Err halt.Seal
   pub no_memory : result ≢ Err halt.Memory
+
+-- The same of a line that is made and written: memory may lack too.
+pub record SaysOrLacks {T : Type 0} (old new : ℕ) (result : Result T Halt) : Type 0 where
+  pub later : old ≤ new
+  pub write : result ≡ Err halt.Write → Rose old new
+  pub no_read : result ≢ Err halt.Read
+  pub no_seal : result ≢ Err halt.Seal
 
 -- The same of lines that are run: the envelope and the sink alone may halt them.
 pub record LinesHalt {T : Type 0} (seals_old seals_new writes_old writes_new : ℕ) (result : Result T Halt) : Type 0 where

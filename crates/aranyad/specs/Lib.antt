@@ -5,6 +5,7 @@ pub mod Ending
 pub mod Written
 pub mod Printing
 pub mod Loading
+pub mod Checking
 pub mod Scripts
 pub mod Runs
 pub mod working

@@ -1,14 +1,15 @@
 -- A run of the program: how it ends and what it prints, by its words, the files and the disks.
-use Rattle.std.specs.Prelude.{◌≡◌, ◌⊎◌, ℕ, List, length, Option, Some, None, Result, Ok, Err}
+use Rattle.std.specs.Prelude.{◌≡◌, ℕ, List, Option, Some, None, Result}
 use Rattle.outside.specs.Files.{Holding}
 use Rattle.policy_ast.specs.declared.policy.PlacedItem.{PlacedItem}
-use Rattle.script_texts.specs.Modes.{checked_text, lines_refused_text, too_large_text, usage_text}
+use Rattle.script_texts.specs.Modes.{lines_refused_text, too_large_text, usage_text}
 use Rattle.script_texts.specs.declared.words.Input.TheVariants as input
 use Rattle.world.specs.Lines.{Tags}
 use Rattle.world.specs.Worlds.{opened}
 use Rattle.aranyad.specs.Loading.{IsLoaded, IsScriptFile, limited, policy_limit, script_limit}
 use Rattle.aranyad.specs.Modes.{mode_of}
-use Rattle.aranyad.specs.Printing.{Goes, HaltsAtOnce, Says}
+use Rattle.aranyad.specs.Checking.{ChecksFile, Reads}
+use Rattle.aranyad.specs.Printing.{Goes, Says}
 use Rattle.aranyad.specs.Scripts.{RunsOpened, names_of}
 use Rattle.aranyad.specs.Ending.{status_of}
 use Rattle.aranyad.specs.declared.ending.Ending.{Ending}
@@ -21,19 +22,6 @@ use Rattle.aranyad.specs.declared.loading.Script.TheVariants as script
 use Rattle.aranyad.specs.declared.mode.Mode.{Mode}
 use Rattle.aranyad.specs.declared.mode.Mode.TheVariants.{Check, Run}
 use Rattle.aranyad.specs.declared.status.Status.{Status}
-
--- A part of a run that reads a file first. A failed read, or want of memory for what is read, ends the run before anything is printed.
-abbrev pub Reads : Option (Option (List ℕ)) → (Option (List ℕ) → Result Ending Halt → List (List ℕ) → Type 0) → Result Ending Halt → List (List ℕ) → Type 0
-Reads file goes result texts = HaltsAtOnce result texts ⊎ ((bytes : Option (List ℕ)) × (file ≡ Some bytes) × goes bytes result texts)
-
--- `check`: the number of items is told, or why there is no policy.
-abbrev pub Checks : Loaded → Result Ending Halt → List (List ℕ) → Type 0
-Checks loaded.TooLarge = Says ending.TooLarge (too_large_text input.Policy)
-Checks (loaded.Refused line) = Says ending.PolicyRefused line
-Checks (loaded.Whole digest policy) = Says ending.Done (checked_text (length policy))
-
-abbrev pub ChecksFile : Option (Option (List ℕ)) → Result Ending Halt → List (List ℕ) → Type 0
-ChecksFile file result texts = Reads file (λ bytes r ts. (is : Loaded) × IsLoaded bytes is × Checks is r ts) result texts
 
 module _ {D : Type 0} (tags : Tags) (disks : List D) where
   -- Lines are run in the world of the replicas that they declare, each empty and on the disk at its place.

@@ -1,5 +1,6 @@
 -- How the lines of a script are run in a world, one after another.
-use Rattle.std.specs.Prelude.{◌≡◌, ◌⊎◌, ℕ, ◌+◌, Bool, true, List, [], ◌∷◌, ◌++◌, Result, Ok, Err}
+use Rattle.std.specs.Prelude.{◌≡◌, ◌⊎◌, ℕ, List, [], ◌∷◌, ◌++◌, Result, Ok, Err}
+use Rattle.std.specs.List.{flat_map}
 use Rattle.script.specs.declared.line.Line.{Line}
 use Rattle.script.specs.declared.line.Line.TheVariants as line
 use Rattle.world.specs.Lines.{Runs, Tags}
@@ -11,18 +12,20 @@ use Rattle.aranyad.specs.declared.ending.Halt.{Halt}
 use Rattle.aranyad.specs.declared.ending.Halt.TheVariants as halt
 use Rattle.aranyad.specs.Printing.{HaltsAtOnce}
 
+-- The name that a line declares, where it declares one.
+abbrev pub name_of : Line → List (List ℕ)
+name_of (line.Replica a) = a ∷ []
+name_of other = []
+
 -- The names that the lines of a script declare, in order.
 abbrev pub names_of : List Line → List (List ℕ)
-names_of [] = []
-names_of (line.Replica a ∷ lines) = a ∷ names_of lines
-names_of (other ∷ lines) = names_of lines
-
+names_of lines = flat_map name_of lines
 
 module _ {D : Type 0} (tags : Tags) (first : Site D) where
   -- Lines ran one after another, each in the world that the line before left. These are their texts.
   pub data Ran : List Line → List (List ℕ) → Site D → Type 0 where
     none : Ran [] [] first
-    more : {lines : List Line} {texts : List (List ℕ)} {mid new : Site D} {one : Line} {text : List ℕ} → Ran lines texts mid → Runs tags mid one text new → Ran (lines ++ one ∷ []) (texts ++ text ∷ []) new
+    more : {lines : List Line} {texts : List (List ℕ)} {mid new : Site D} (one : Line) (text : List ℕ) → Ran lines texts mid → Runs tags mid one text new → Ran (lines ++ one ∷ []) (texts ++ text ∷ []) new
 
   -- Of the lines of a script, those at the front ran, and these are left.
   pub record RanUpTo (lines left : List Line) (texts : List (List ℕ)) (now : Site D) : Type 0 where

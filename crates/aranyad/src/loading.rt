@@ -1,6 +1,6 @@
 //! What the files of a policy and of a script are taken for.
 
-ghost use Rattle.std.specs.Prelude.{◌≡◌, ◌<◌, ◌^◌, ⊥, IfOk, IfSome, MatchOption, length};
+ghost use Rattle.std.specs.Prelude.{◌≡◌, ◌<◌, ◌^◌, IfOk, IfSome, MatchOption, length};
 ghost use Rattle.policy_lex.specs.Answers.{named};
 ghost use Rattle.aranyad.specs.Ending.{ReadHalts};
 ghost use Rattle.aranyad.specs.Loading.{Holds, IsLoaded, IsParsed, IsRead, IsScriptFile, IsTyped, ArePlaced, fault_line, limited, policy_limit, script_limit};

@@ -15,6 +15,7 @@ mod running;
 mod shared_runner;
 mod stages;
 mod status;
+mod telling;
 mod words;
 
 use crate::run_command::run_command;

@@ -1,9 +1,19 @@
-ghost use Rattle.std.specs.Prelude.{◌≡◌, IfOk};
-ghost use Rattle.aranyad.specs.Scripts.{names_of};
+ghost use Rattle.std.specs.Prelude.{◌≡◌, ◌++◌, IfOk, OnOk};
+ghost use Rattle.aranyad.specs.Scripts.{name_of, names_of};
 
 use base_bytes::{NoMemory, Text};
 use script::Line;
 use std::alloc::Global;
+
+/// Adds the name that a line declares, where it declares one.
+fn add_name(alloc: Global, names: &mut Vec<Text>, line: &Line) -> Result<(), NoMemory>
+    ensures { OnOk result (names.new.items ≡ names.old.items ++ name_of line.now) }
+{
+    if let Line::Replica(name) = line {
+        names.push(name.copy(alloc)?)?;
+    }
+    Ok(())
+}
 
 /// The names that the lines of a script declare, in order.
 pub fn names_of(alloc: Global, lines: &[Line]) -> Result<Vec<Text>, NoMemory>
@@ -11,9 +21,7 @@ pub fn names_of(alloc: Global, lines: &[Line]) -> Result<Vec<Text>, NoMemory>
 {
     let mut names = Vec::new(alloc);
     for line in lines {
-        if let Line::Replica(name) = line {
-            names.push(name.copy(alloc)?)?;
-        }
+        add_name(alloc, &mut names, line)?;
     }
     Ok(names)
 }

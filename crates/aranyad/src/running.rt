@@ -4,10 +4,10 @@ ghost use Rattle.std.specs.Prelude.{◌≡◌, ◌⊎◌, ◌<◌, ◌≤◌, �
 ghost use Rattle.outside.specs.Causes.{Rose};
 ghost use Rattle.world.specs.Lines.{Tags};
 ghost use Rattle.world.specs.Worlds.{Site, disks_of, opened};
-ghost use Rattle.aranyad.specs.Ending.{HaltsBy, LinesHalt};
+ghost use Rattle.aranyad.specs.Ending.{LinesHalt};
 ghost use Rattle.aranyad.specs.Printing.{Goes, HaltsAtOnce};
 ghost use Rattle.aranyad.specs.Scripts.{RunsLines, names_of};
-ghost use Rattle.aranyad.specs.working.Following.{FollowIn, IsPlain};
+ghost use Rattle.aranyad.specs.working.Following.{FollowIn, HaltsBy, IsPlain};
 ghost use Rattle.script.specs.Scripts.{IsScript};
 
 use crate::ending::{Ending, Halt};

@@ -1,8 +1,7 @@
 //! One runner that several replicas share.
 
-ghost use Rattle.std.specs.Prelude.{◌≡◌, ◌+◌, ℕ, IfOk, OnOk, length};
+ghost use Rattle.std.specs.Prelude.{◌≡◌, All, IfOk, length};
 ghost use Rattle.std.specs.Arc.{arc_value};
-ghost use Rattle.policy_ast.specs.declared.policy.PlacedItem.{PlacedItem};
 
 use base_bytes::{Id, NoMemory, Steps, Values};
 use fact_store::FactBase;
@@ -64,7 +63,7 @@ impl<R: Runner> Runner for SharedRunner<R> {
 /// So many shares in one runner.
 pub fn shares<R: Runner>(alloc: Global, runner: R, number: usize) -> Result<Vec<SharedRunner<R>>, NoMemory>
     ensures number { IfOk result (λ shares. length shares.items ≡ number) }
-    ensures rules { IfOk result (λ shares. RunAll (λ share. R.rules (arc_value share.runner)) (R.rules runner) shares.items) }
+    ensures rules { IfOk result (λ shares. All (λ share. R.rules (arc_value share.runner) ≡ R.rules runner) shares.items) }
 {
     let shared = Arc::new(alloc, runner)?;
     let mut shares = Vec::new(alloc);

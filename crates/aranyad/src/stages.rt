@@ -1,94 +1,25 @@
-//! The modes, stage by stage: each stage gives a value, and touches the devices that it needs.
+//! The mode `run`, stage by stage: each stage gives a value, and touches the devices that it needs.
 
-ghost use Rattle.std.specs.Prelude.{◌≡◌, ◌≢◌, ◌⊎◌, ℕ, List, Some, Err, IfOk, IfSome, length, vec_len};
-ghost use Rattle.script_texts.specs.Modes as modes;
-ghost use Rattle.script_texts.specs.declared.words.Input.TheVariants as input;
+ghost use Rattle.std.specs.Prelude.{◌≡◌, ◌⊎◌, Some, Err, IfSome, vec_len};
 ghost use Rattle.world.specs.Lines.{Tags};
-ghost use Rattle.aranyad.specs.Ending.{HaltsWithCause, LinesHalt, WriteHalts, counts};
+ghost use Rattle.aranyad.specs.Ending.{HaltsWithCause, LinesHalt, counts};
 ghost use Rattle.aranyad.specs.Loading.{ArePlaced, limited, policy_limit, script_limit};
-ghost use Rattle.aranyad.specs.Printing.{Goes, Says};
-ghost use Rattle.aranyad.specs.Runs.{Checks, ChecksFile, RunsFiles, RunsPolicy, RunsScriptFile, RunsWorld};
-ghost use Rattle.aranyad.specs.declared.ending.Ending.TheVariants as ending;
+ghost use Rattle.aranyad.specs.Printing.{Goes};
+ghost use Rattle.aranyad.specs.Runs.{RunsFiles, RunsPolicy, RunsScriptFile, RunsWorld};
 ghost use Rattle.aranyad.specs.declared.ending.Halt.TheVariants as halt;
 
 use crate::ending::{Ending, Halt};
 use crate::loading::{Loaded, Script, load_policy, load_script};
 use crate::printing::say;
 use crate::running::run_world;
-use base_bytes::{Id, NoMemory, Text};
+use crate::telling::{refuse_large, refuse_line};
+use base_bytes::{Id, Text};
 use outside::{Disk, Envelope, Files, Sink};
 use policy_types::Checked;
-use script_texts::{Input, checked_text, lines_refused_text, too_large_text};
+use script_texts::Input;
 use std::alloc::Global;
 use std::marker::Brand;
 use std::sync::ledger::Blank;
-
-/// Says that a file has too many bytes.
-fn refuse_large<K: Sink>(alloc: Global, what: Input, out: &mut K) -> Result<Ending, Halt>
-    ensures goes { Goes (Says ending.TooLarge (modes.too_large_text what)) result (K.written out.old) (K.written out.new) }
-    ensures cause { LinesHalt 0 0 (K.faults out.old) (K.faults out.new) result }
-    ensures no_seal { result ≢ Err halt.Seal }
-{
-    match too_large_text(alloc, what) {
-        Ok(line) => say(out, Ending::TooLarge, line.as_slice()),
-        Err(NoMemory) => Err(Halt::Memory),
-    }
-}
-
-/// Says which line of a script is refused.
-fn refuse_line<K: Sink>(alloc: Global, number: u32, out: &mut K) -> Result<Ending, Halt>
-    ensures goes { Goes (Says ending.ScriptRefused (modes.lines_refused_text input.Script number)) result (K.written out.old) (K.written out.new) }
-    ensures cause { LinesHalt 0 0 (K.faults out.old) (K.faults out.new) result }
-    ensures no_seal { result ≢ Err halt.Seal }
-{
-    match lines_refused_text(alloc, Input::Script, number) {
-        Ok(line) => say(out, Ending::ScriptRefused, line.as_slice()),
-        Err(NoMemory) => Err(Halt::Memory),
-    }
-}
-
-/// Says how many items a policy has.
-fn tell_items<K: Sink>(alloc: Global, number: usize, out: &mut K) -> Result<Ending, Halt>
-    ensures goes { Goes (Says ending.Done (modes.checked_text number)) result (K.written out.old) (K.written out.new) }
-    ensures cause { LinesHalt 0 0 (K.faults out.old) (K.faults out.new) result }
-    ensures no_seal { result ≢ Err halt.Seal }
-{
-    match checked_text(alloc, number) {
-        Ok(line) => say(out, Ending::Done, line.as_slice()),
-        Err(NoMemory) => Err(Halt::Memory),
-    }
-}
-
-/// Says what the policy's file was taken for.
-fn tell_loaded<K: Sink>(alloc: Global, policy: &Loaded, out: &mut K) -> Result<Ending, Halt>
-    ensures goes { Goes (Checks policy.now) result (K.written out.old) (K.written out.new) }
-    ensures cause { LinesHalt 0 0 (K.faults out.old) (K.faults out.new) result }
-    ensures no_seal { result ≢ Err halt.Seal }
-{
-    match policy {
-        Loaded::TooLarge => refuse_large(alloc, Input::Policy, out),
-        Loaded::Refused(line) => say(out, Ending::PolicyRefused, line.as_slice()),
-        Loaded::Whole(_, policy) => tell_items(alloc, policy.policy().items().len(), out),
-    }
-}
-
-/// Judges the policy's file, and prints what it was taken for.
-pub fn check_file<F: Files, K: Sink>(
-    alloc: Global,
-    policy: Text,
-    files: &mut F,
-    out: &mut K,
-) -> Result<Ending, Halt>
-    ensures goes { IfSome (F.holds files.old) (λ at. Goes (ChecksFile (limited policy_limit (at policy))) result (K.written out.old) (K.written out.new)) }
-    ensures cause { HaltsWithCause (counts (F.faults files.old) 0 (K.faults out.old)) (counts (F.faults files.new) 0 (K.faults out.new)) result }
-    ensures no_seal { result ≢ Err halt.Seal }
-    ensures last { result ≡ Err halt.Read → F.last files.new ≡ Some policy }
-{
-    match load_policy(alloc, files, policy) {
-        Ok(loaded) => tell_loaded(alloc, &loaded, out),
-        Err(halt) => Err(halt),
-    }
-}
 
 /// Runs what the script's file was taken for, under a policy whose document has this digest.
 fn run_script<D: Disk, E: Envelope, K: Sink>(

@@ -6,6 +6,8 @@ use Rattle.world.specs.Worlds.{Site}
 use Rattle.world.specs.declared.stop.RunStop.{RunStop}
 use Rattle.world.specs.declared.stop.RunStop.TheVariants as stop
 use Rattle.aranyad.specs.Scripts.{names_of}
+use Rattle.aranyad.specs.declared.ending.Halt.{Halt}
+use Rattle.aranyad.specs.declared.ending.Halt.TheVariants as halt
 
 -- They are the rest of a script whose lines so far made the world's messages, and all its lines declare the world's names.
 pub record FollowIn {D : Type 0} (site : Site D) (lines : List Line) : Type 0 where
@@ -22,3 +24,10 @@ IsPlain stop.DiskFault = ⊥
 IsPlain stop.SealFault = Unit {0}
 IsPlain (stop.Journal name fault) = ⊥
 IsPlain stop.NoMemory = Unit {0}
+
+-- What a stop of the world halts a run with. No disk is used yet, and no journal read.
+abbrev pub HaltsBy : RunStop → Halt → Type 0
+HaltsBy stop.DiskFault why = ⊥
+HaltsBy stop.SealFault why = why ≡ halt.Seal
+HaltsBy (stop.Journal name fault) why = ⊥
+HaltsBy stop.NoMemory why = why ≡ halt.Memory
