@@ -56,19 +56,26 @@ impl<R: Runner> Runner for SharedRunner<R> {
         desk: &mut P,
         steps: &mut Steps<L>,
     ) -> Result<ActionEnd, NoMemory> {
-        self.runner.run_action(alloc, action, args, device, facts, desk, steps)
+        self.runner
+            .run_action(alloc, action, args, device, facts, desk, steps)
     }
 }
 
 /// So many shares in one runner.
-pub fn shares<R: Runner>(alloc: Global, runner: R, number: usize) -> Result<Vec<SharedRunner<R>>, NoMemory>
+pub fn shares<R: Runner>(
+    alloc: Global,
+    runner: R,
+    number: usize,
+) -> Result<Vec<SharedRunner<R>>, NoMemory>
     ensures number { IfOk result (λ shares. length shares.items ≡ number) }
     ensures rules { IfOk result (λ shares. All (λ share. R.rules (arc_value share.runner) ≡ R.rules runner) shares.items) }
 {
     let shared = Arc::new(alloc, runner)?;
     let mut shares = Vec::new(alloc);
     for _ in 0..number {
-        shares.push(SharedRunner { runner: Arc::try_clone(&shared)? })?;
+        shares.push(SharedRunner {
+            runner: Arc::try_clone(&shared)?,
+        })?;
     }
     Ok(shares)
 }

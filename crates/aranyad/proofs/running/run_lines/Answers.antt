@@ -25,7 +25,7 @@ returns-in-Err-clause-goes g c =
     let tags : Tags = record { good = g.E.Envelope.good; told = g.E.Envelope.tag_of } in
     line_stopped tags c.args.world.now c.args.lines.now (g.K.Sink.written c.args.out.now) c.line-item.result _ c.loop-line.world _ _ c.in-Err.stop _
     (subst (λ l. SoFar tags c.args.world.now c.args.lines.now (g.K.Sink.written c.args.out.now) l c.loop-line.world (g.K.Sink.written c.loop-line.out))
-      (at_hand c.args.lines.now c.loop-line.line-index c.line-item.result c.loop-line-test.true c.line-item.is) c.loop-line.invariant.so_far)
+    (at_hand c.args.lines.now c.loop-line.line-index c.line-item.result c.loop-line-test.true c.line-item.is) c.loop-line.invariant.so_far)
     c.in-Err.ensures.line.0 c.in-Err.ensures.seals c.halted.ensures
 
 pub returns-in-Err-write_all-clause-goes : goal.returns-in-Err-write_all-clause-goes
@@ -33,7 +33,7 @@ returns-in-Err-write_all-clause-goes g c =
     let tags : Tags = record { good = g.E.Envelope.good; told = g.E.Envelope.tag_of } in
     line_broken tags c.args.world.now c.args.lines.now (g.K.Sink.written c.args.out.now) c.line-item.result _ c.in-Ok.ensures.line.0 c.loop-line.world _ _ _
     (subst (λ l. SoFar tags c.args.world.now c.args.lines.now (g.K.Sink.written c.args.out.now) l c.loop-line.world (g.K.Sink.written c.loop-line.out))
-      (at_hand c.args.lines.now c.loop-line.line-index c.line-item.result c.loop-line-test.true c.line-item.is) c.loop-line.invariant.so_far)
+    (at_hand c.args.lines.now c.loop-line.line-index c.line-item.result c.loop-line-test.true c.line-item.is) c.loop-line.invariant.so_far)
     c.in-Ok.ensures.line.1
     (front_as _ c.in-Ok.ensures.line.0 _ _ (c.as_slice.ensures ∙ c.in-Ok.ensures.line.2 ∙ ap (λ l. l ++ c.in-Ok.ensures.line.0) c.new-text.ensures) c.in-Err-write_all.ensures.written)
 

@@ -16,7 +16,7 @@ run_lines-result-requires g c =
     record {
       placed = world_follows c.args.policy c.args.digest.now c.args.disks.now.items c.requires.script.0 c.args.lines.now c.in-Ok.world
           (same_opened c.new.result c.args.policy c.args.digest.now c.as_slice.result.now (names_of c.args.lines.now) c.replace-own.result.items c.args.disks.now.items c.in-Ok.world
-            (c.in-Ok.ensures.opens c.new.result c.in_ok-runners.ensures.rules) c.new.ensures (c.as_slice.ensures.value ∙ c.in_ok-names.ensures) same)
+          (c.in-Ok.ensures.opens c.new.result c.in_ok-runners.ensures.rules) c.new.ensures (c.as_slice.ensures.value ∙ c.in_ok-names.ensures) same)
           c.requires.script.1 c.requires.enough;
     }
 
@@ -26,7 +26,7 @@ returns-clause-goes g c =
     let tags : Tags = record { good = g.E.Envelope.good; told = g.E.Envelope.tag_of } in
     opened_goes tags (opened c.args.policy c.args.digest.now (names_of c.args.lines.now) c.args.disks.now.items) c.in-Ok.world _ c.args.lines.now c.run_lines-result.result _ _
     (same_opened c.new.result c.args.policy c.args.digest.now c.as_slice.result.now (names_of c.args.lines.now) c.replace-own.result.items c.args.disks.now.items c.in-Ok.world
-      (c.in-Ok.ensures.opens c.new.result c.in_ok-runners.ensures.rules) c.new.ensures (c.as_slice.ensures.value ∙ c.in_ok-names.ensures) same)
+    (c.in-Ok.ensures.opens c.new.result c.in_ok-runners.ensures.rules) c.new.ensures (c.as_slice.ensures.value ∙ c.in_ok-names.ensures) same)
     c.run_lines-result.ensures.goes
 
 pub returns-clause-disks : goal.returns-clause-disks
@@ -35,5 +35,5 @@ returns-clause-disks g c =
     c.into_disks.ensures ∙ c.run_lines-result.ensures.disks ∙
     disks_stay c.args.policy c.args.digest.now c.args.disks.now.items c.requires.script.0 c.args.lines.now c.in-Ok.world
     (same_opened c.new.result c.args.policy c.args.digest.now c.as_slice.result.now (names_of c.args.lines.now) c.replace-own.result.items c.args.disks.now.items c.in-Ok.world
-      (c.in-Ok.ensures.opens c.new.result c.in_ok-runners.ensures.rules) c.new.ensures (c.as_slice.ensures.value ∙ c.in_ok-names.ensures) same)
+    (c.in-Ok.ensures.opens c.new.result c.in_ok-runners.ensures.rules) c.new.ensures (c.as_slice.ensures.value ∙ c.in_ok-names.ensures) same)
     c.requires.script.1 c.requires.enough
