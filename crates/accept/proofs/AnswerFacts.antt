@@ -16,7 +16,7 @@ use Rattle.command.proofs.PlaceFacts.{held_place, inside_at, place_at, place_hel
 -- ---- ids that are held
 
 -- the held command of an id is held, and has it
-held_with_is : (cs : List Command) (id : List ℕ) (y : Command) → held_with cs id ≡ Some y → Contains cs y × (command_id y ≡ id)
+pub held_with_is : (cs : List Command) (id : List ℕ) (y : Command) → held_with cs id ≡ Some y → Contains cs y × (command_id y ≡ id)
 held_with_is [] id y is = absurd cc
 held_with_is (x ∷ cs) id y is = by (bytes_eq id (command_id x)) refl is (held_with_is cs id y)
   where

@@ -7,3 +7,4 @@ mod TakeFacts
 mod ReasonFacts
 mod AdmitFacts
 mod AdmissionRows
+mod WelcomeFacts

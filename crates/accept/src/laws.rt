@@ -1,11 +1,13 @@
 //! The laws of admission, over the definitions alone. These functions do nothing; their contracts are the laws.
 
 ghost use Rattle.std.specs.Prelude.{◌≡◌, ℕ, List, [], ◌∷◌, ◌++◌, Option};
-ghost use Rattle.std.specs.List.{All};
+ghost use Rattle.std.specs.List.{All, Contains};
 ghost use Rattle.accept.specs.Admission.{IsAdmission};
-ghost use Rattle.accept.specs.Laws.{HasOneAnswer, HasOneTally};
+ghost use Rattle.accept.specs.Laws.{HasOneAnswer, HasOneTally, IsWelcome};
 ghost use Rattle.accept.specs.Takes.{IsTake, Tally};
+ghost use Rattle.accept.specs.declared.answer.Admit.{Admit};
 ghost use Rattle.accept.specs.declared.answer.Admit.TheVariants.{Added};
+ghost use Rattle.braid_run.specs.Places.{AgreeOnIds};
 ghost use Rattle.braid_run.specs.Soundness.{AreSound, Criteria};
 ghost use Rattle.braid_run.specs.States.{IsStanding, MayFollow};
 ghost use Rattle.command.specs.Closed.{IsClosed};
@@ -23,6 +25,13 @@ pub fn added_commands_are_sound()
         → IsAdmission criteria graph_id commands command Added → MayFollow graph_id commands command }
     ensures sound { (criteria : Criteria) (graph_id : Option (List ℕ)) (commands : List Command) (command : Command) → AreSound criteria graph_id commands → IsFormed command
         → IsAdmission criteria graph_id commands command Added → AreSound criteria graph_id (commands ++ command ∷ []) }
+{}
+
+/// A command of a sound list, at whatever list that has no id for another command: it is added or a repeat, or is refused for what is held there. Nothing
+/// else is ever against it.
+pub fn sound_commands_are_welcome()
+    ensures { (criteria : Criteria) (graph_id : Option (List ℕ)) (commands sound : List Command) (command : Command) (answer : Admit) → IsClosed commands
+        → AreSound criteria graph_id sound → AgreeOnIds commands sound → Contains sound command → IsAdmission criteria graph_id commands command answer → IsWelcome commands command answer }
 {}
 
 /// The take of a list comes to one tally, and to no other; what is held then stands, and is sound where it was before.

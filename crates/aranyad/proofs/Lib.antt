@@ -1,32 +1,5 @@
 -- Lemmas that the proofs of this crate share.
-pub mod Each
-pub mod Placed
-pub mod Indexing
-pub mod Leading
-pub mod LineTexts
-pub mod Lines
-pub mod Payloads
 pub mod Pieces
-pub mod Publishing
-pub mod ScriptLines
-pub mod Sounding
-pub mod Standing
-pub mod Runs
-pub mod Readings
-pub mod Following
-pub mod OneOutcome
-pub mod SmallTrees
-pub mod SmallHeads
-pub mod SmallTypes
-pub mod SmallKinds
-pub mod SmallChains
-pub mod SmallNames
-pub mod SmallTyped
-pub mod SmallRows
-pub mod SmallPlaces
-pub mod SmallMeaning
-pub mod SmallBlocks
-pub mod SmallActions
-pub mod SmallPayloads
-pub mod SmallCommands
-mod InstanceRows
+pub mod Goings
+pub mod Loadings
+pub mod Followings

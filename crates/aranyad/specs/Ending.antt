@@ -1,12 +1,12 @@
 -- How a run ends, by its statuses; and which counts must have risen where it was halted.
-use Rattle.std.specs.Prelude.{◌≡◌, ◌≢◌, ℕ, ◌≤◌, List, Option, Some, Result, Err}
+use Rattle.std.specs.Prelude.{◌≡◌, ◌≢◌, ◌⊎◌, ℕ, ◌≤◌, List, Option, Some, None, Result, Ok, Err}
 use Rattle.outside.specs.Causes.{Rose}
 use Rattle.aranyad.specs.declared.ending.Ending.{Ending}
 use Rattle.aranyad.specs.declared.ending.Ending.TheVariants as ending
 use Rattle.aranyad.specs.declared.ending.Halt.{Halt}
 use Rattle.aranyad.specs.declared.ending.Halt.TheVariants as halt
-use Rattle.aranyad.specs.declared.first.stop.Stop.{Stop}
-use Rattle.aranyad.specs.declared.first.stop.Stop.TheVariants as stop
+use Rattle.aranyad.specs.declared.mode.Mode.{Mode}
+use Rattle.aranyad.specs.declared.mode.Mode.TheVariants.{Check, Run}
 use Rattle.aranyad.specs.declared.status.Status.{Status}
 use Rattle.aranyad.specs.declared.status.Status.TheVariants as status
 
@@ -23,11 +23,11 @@ halt_status halt.Write = status.WriteFault
 halt_status halt.Seal = status.SealFault
 halt_status halt.Memory = status.NoMemory
 
-abbrev pub halt_of : Stop → Halt
-halt_of stop.Seal = halt.Seal
-halt_of stop.Memory = halt.Memory
+abbrev pub status_of : Result Ending Halt → Status
+status_of (Ok end) = ending_status end
+status_of (Err why) = halt_status why
 
--- the counts of faults of the files, of the envelope and of the sink
+-- The counts of faults of the files, of the envelope and of the sink.
 pub record Counts : Type 0 where
   pub files : ℕ
   pub seals : ℕ
@@ -36,7 +36,7 @@ pub record Counts : Type 0 where
 abbrev pub counts : ℕ → ℕ → ℕ → Counts
 counts files seals writes = record { files = files; seals = seals; writes = writes }
 
--- no count fell, and a halt by a device needs that its count rose
+-- No count fell, and a halt by a device needs that its count rose.
 pub record HaltsWithCause {T : Type 0} (old new : Counts) (result : Result T Halt) : Type 0 where
   pub later_files : old.files ≤ new.files
   pub later_seals : old.seals ≤ new.seals
@@ -45,18 +45,14 @@ pub record HaltsWithCause {T : Type 0} (old new : Counts) (result : Result T Hal
   pub seal : result ≡ Err halt.Seal → Rose old.seals new.seals
   pub write : result ≡ Err halt.Write → Rose old.writes new.writes
 
--- where a read halted, the latest failed read is of the file with this name
-abbrev pub NamesFile : {T : Type 0} → List ℕ → Option (List ℕ) → Result T Halt → Type 0
-NamesFile name last result = result ≡ Err halt.Read → last ≡ Some name
-
--- the same of a read of one file, which no other device halts
+-- The same of a read of the file with this name, which no other device halts.
 pub record ReadHalts {T : Type 0} (name : List ℕ) (old new : ℕ) (last : Option (List ℕ)) (result : Result T Halt) : Type 0 where
   pub later : old ≤ new
   pub failed : result ≡ Err halt.Read → Rose old new × (last ≡ Some name)
   pub no_seal : result ≢ Err halt.Seal
   pub no_write : result ≢ Err halt.Write
 
--- the same of a write
+-- The same of a write.
 pub record WriteHalts {T : Type 0} (old new : ℕ) (result : Result T Halt) : Type 0 where
   pub later : old ≤ new
   pub write : result ≡ Err halt.Write → Rose old new
@@ -64,10 +60,43 @@ pub record WriteHalts {T : Type 0} (old new : ℕ) (result : Result T Halt) : Ty
   pub no_seal : result ≢ Err halt.Seal
   pub no_memory : result ≢ Err halt.Memory
 
--- the same of lines that are run: the envelope and the sink alone may halt them
+-- The same of a line that is made and written: memory may lack too.
+pub record SaysOrLacks {T : Type 0} (old new : ℕ) (result : Result T Halt) : Type 0 where
+  pub later : old ≤ new
+  pub write : result ≡ Err halt.Write → Rose old new
+  pub no_read : result ≢ Err halt.Read
+  pub no_seal : result ≢ Err halt.Seal
+
+-- The same of lines that are run: the envelope and the sink alone may halt them.
 pub record LinesHalt {T : Type 0} (seals_old seals_new writes_old writes_new : ℕ) (result : Result T Halt) : Type 0 where
   pub later_seals : seals_old ≤ seals_new
   pub later_writes : writes_old ≤ writes_new
   pub no_read : result ≢ Err halt.Read
   pub seal : result ≡ Err halt.Seal → Rose seals_old seals_new
   pub write : result ≡ Err halt.Write → Rose writes_old writes_new
+
+-- The latest failed read is of a file that the words give.
+abbrev pub IsGiven : Option Mode → Option (List ℕ) → Type 0
+IsGiven None last = ⊥
+IsGiven (Some (Check policy)) last = last ≡ Some policy
+IsGiven (Some (Run policy script store)) last = (last ≡ Some policy) ⊎ (last ≡ Some script)
+
+-- Scripts are run, and so seals asked for.
+abbrev pub MaySeal : Option Mode → Type 0
+MaySeal None = ⊥
+MaySeal (Some (Check policy)) = ⊥
+MaySeal (Some (Run policy script store)) = Unit {0}
+
+-- What each status needs to have happened, whatever the devices tell.
+abbrev pub HasCause : Option Mode → Counts → Counts → Option (List ℕ) → Status → Type 0
+HasCause mode old new last status.Done = Unit {0}
+HasCause mode old new last status.PolicyRefused = Unit {0}
+HasCause mode old new last status.Usage = mode ≡ None
+HasCause mode old new last status.ScriptRefused = Unit {0}
+HasCause mode old new last status.ReadFault = Rose old.files new.files × IsGiven mode last
+HasCause mode old new last status.WriteFault = Rose old.writes new.writes
+HasCause mode old new last status.DiskFault = ⊥
+HasCause mode old new last status.NoMemory = Unit {0}
+HasCause mode old new last status.TooLarge = Unit {0}
+HasCause mode old new last status.JournalRefused = ⊥
+HasCause mode old new last status.SealFault = Rose old.seals new.seals × MaySeal mode

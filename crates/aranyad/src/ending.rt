@@ -1,4 +1,3 @@
-use crate::first::stop::Stop;
 use crate::status::Status;
 use base_bytes::NoMemory;
 
@@ -62,19 +61,5 @@ impl From<NoMemory> for Halt {
 
     fn from(_error: NoMemory) -> Halt {
         Halt::Memory
-    }
-}
-
-impl From<Stop> for Halt {
-    ghost use Rattle.std.specs.Prelude.{◌≡◌};
-    ghost use Rattle.aranyad.specs.Ending.{halt_of};
-
-    ghost from_gives = { λ stop e. e ≡ halt_of stop };
-
-    fn from(stop: Stop) -> Halt {
-        match stop {
-            Stop::Seal => Halt::Seal,
-            Stop::Memory => Halt::Memory,
-        }
     }
 }

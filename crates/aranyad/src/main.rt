@@ -5,17 +5,18 @@ ghost use Rattle.std.specs.Prelude.{◌≡◌, IfOk, vec_len};
 
 mod choose;
 mod ending;
-mod first;
-pub mod laws;
 mod loading;
 mod mode;
-mod refusal;
-mod run;
+mod names;
+mod printing;
+mod reading;
 mod run_command;
+mod running;
+mod shared_runner;
 mod stages;
 mod status;
+mod telling;
 mod words;
-mod written;
 
 use crate::run_command::run_command;
 use crate::status::Status;

@@ -3,3 +3,7 @@ pub mod FrontFacts
 pub mod TakeFacts
 pub mod KeptFacts
 pub mod ActFacts
+pub mod JoinLists
+pub mod JoinFacts
+pub mod JoinWhole
+pub mod ExchangeFacts

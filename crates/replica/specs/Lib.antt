@@ -5,4 +5,6 @@ pub mod Messages
 pub mod Takes
 pub mod Actions
 pub mod Calls
+pub mod Sessions
+pub mod Exchanges
 pub mod working

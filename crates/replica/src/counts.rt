@@ -90,6 +90,17 @@ impl Refused {
         Ok(())
     }
 
+    /// These too, behind the others.
+    pub fn append(&mut self, more: Refused) -> Result<(), NoMemory>
+        ensures { OnOk result (self.new ≡ self.old ++ more) }
+    {
+        let Refused {
+            refused: mut others,
+        } = more;
+        self.refused.append(&mut others)?;
+        Ok(())
+    }
+
     pub fn copy(&self, alloc: Global) -> Result<Refused, NoMemory>
         ensures { IfOk result (λ it. it ≡ self.now) }
     {

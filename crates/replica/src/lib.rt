@@ -4,11 +4,13 @@
 mod acting;
 mod counts;
 mod front;
+pub mod laws;
 mod messages;
 mod refusal;
 mod replica;
 mod taking;
 
 pub use counts::{Published, Refused, Taken};
+pub use journal::OpenFault;
 pub use refusal::Refusal;
 pub use replica::Replica;

@@ -2,6 +2,7 @@ ghost use Rattle.std.specs.Prelude.{◌≡◌, ◌+◌, ◌≤◌, true, false, 
 ghost use Rattle.journal.specs.declared.fault.OpenFault.TheVariants as open_fault;
 ghost use Rattle.outside.specs.Causes.{Rose};
 ghost use Rattle.outside.specs.Envelope.{author_id};
+ghost use Rattle.policy_rules.specs.WellTyped.{IsWellTyped};
 ghost use Rattle.replica.specs.Calls.{ActsIn, Answers, Asks, AsksNext, Begins, Joins, TakesIn, TakesTwice};
 ghost use Rattle.replica.specs.Kept.{IsReplica, begun, criteria_of};
 ghost use Rattle.replica.specs.Messages.{IsResponseRead};
@@ -22,6 +23,7 @@ use command::Graph;
 use fact_store::FactBase;
 use journal::OpenFault;
 use outside::{Disk, DiskStep, Envelope, author_of};
+use policy_ast::Policy;
 use policy_meaning::Runner;
 use std::alloc::Global;
 use std::marker::Model;
@@ -260,6 +262,14 @@ impl<R: Runner, G: Graph, F: FactBase, D: Disk> Replica<R, G, F, D> {
         ensures same { self.new ≡ self.old }
     {
         Ok(self.state.graph().len())
+    }
+
+    /// Its policy, which is well typed. Takes no memory.
+    pub fn policy(&self) -> &Policy
+        ensures policy { result.now ≡ self.now.policy }
+        ensures well_typed { IsWellTyped self.now.policy }
+    {
+        self.runner.policy()
     }
 
     /// What it holds, which is sound for its policy, but for the tags of commands.

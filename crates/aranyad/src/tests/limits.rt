@@ -1,7 +1,7 @@
 // The limits of the files, and what is judged before what.
 use crate::tests::rows::{FIRST, Row};
 
-pub const ROWS: [Row; 14] = [
+pub const ROWS: [Row; 13] = [
     Row {
         name: "a policy of the limit",
         policy_length: 1_048_576,
@@ -80,14 +80,6 @@ pub const ROWS: [Row; 14] = [
         policy: "---\npolicy-version: 2\n---\n```policy\naction g() { publish Nope { } }\n```\n",
         status: 1,
         text: &["policy refused: type, line 5\n"],
-        ..FIRST
-    },
-    Row {
-        name: "a policy that is no small one, and no script",
-        words: &["run", "policy", "gone"],
-        policy: "---\npolicy-version: 2\n---\n",
-        status: 1,
-        text: &["policy refused: unbuilt\n"],
         ..FIRST
     },
     Row {

@@ -1,5 +1,5 @@
 use Rattle.aranyad.specs.Loading as loading
-use Rattle.aranyad.proofs.Readings.{fault_read, ok_map}
+use Rattle.aranyad.proofs.Loadings.{fault_read, ok_map}
 use Rattle.policy_lex.specs.Answers.{named}
 use Rattle.aranyad.proofs.loading.read_policy.Goals as goal
 
