@@ -2,15 +2,13 @@
 ghost use Rattle.std.specs.Prelude.{IfOk, IfSome};
 ghost use Rattle.command.specs.Wire.{IsInForm};
 
+use crate::player::DIGEST;
 use base_bytes::{Bytes, Id, NoMemory};
 use command::{Command, Graph, from_bytes};
 use graph_set::ListGraph;
 use graph_tests::made::{append, id_at};
 use outside::{Envelope, TagEnvelope};
 use std::alloc::Global;
-
-/// The digest in the init of a graph.
-const DIGEST: [u8; 32] = [9; 32];
 
 /// A field of a payload.
 #[derive(Clone, Copy)]
