@@ -1,6 +1,6 @@
 -- How parts of a run go, one after another.
-use Rattle.std.proofs.Common.{◌≡◌, ◌⊎◌, ℕ, suc, ◌+◌, ◌<◌, add-one, drop, drop-cons, get_or, length, List, [], ◌∷◌, ◌++◌, Option, Some, None, Result, Ok, Err, refl, sym, ap, subst, ◌∙◌, inl, inr, append_assoc}
-use Rattle.std.specs.Prelude.{IfOk, IfSome}
+use Rattle.std.proofs.Common.{◌≡◌, ℕ, suc, ◌+◌, ◌<◌, add-one, drop, drop-cons, get_or, length, List, [], ◌∷◌, ◌++◌, Option, Some, None, Result, Ok, Err, refl, sym, ap, subst, ◌∙◌, inr, append_assoc}
+use Rattle.std.specs.Prelude.{IfSome}
 use Rattle.std.specs.Io.KnownBytes.{append_known}
 use Rattle.std.specs.List.{concat}
 use Rattle.outside.specs.Files.{Holding}
@@ -12,8 +12,8 @@ use Rattle.world.specs.declared.stop.RunStop.{RunStop}
 use Rattle.world.specs.declared.stop.RunStop.TheVariants as stop
 use Rattle.aranyad.specs.Checking.{Reads}
 use Rattle.aranyad.specs.Loading.{Holds}
-use Rattle.aranyad.specs.Printing.{Goes, Prints, Says}
-use Rattle.aranyad.specs.Scripts.{RanUpTo, Ran, RunsLines, RunsOpened}
+use Rattle.aranyad.specs.Printing.{Goes, Says}
+use Rattle.aranyad.specs.Scripts.{RanUpTo, RunsLines, RunsOpened}
 use Rattle.aranyad.specs.Scripts as scripts
 use Rattle.aranyad.specs.Written.{WritesFront}
 use Rattle.aranyad.specs.working.Following.{HaltsBy}

@@ -32,7 +32,7 @@ fn empty_disks(alloc: Global) -> Result<Vec<MemoryDisk>, NoMemory>
     ensures { IfOk result (λ disks. length disks.items ≡ 8) }
 {
     let mut disks = Vec::new(alloc);
-    for _ in 0..8 {
+    for _ in 0..8usize {
         disks.push(MemoryDisk::new(alloc, Bytes::new(alloc), Vec::new(alloc)))?;
     }
     Ok(disks)

@@ -178,7 +178,7 @@ fn call_one<E: Envelope, L: Ledger>(
     }
 }
 
-fn call<E: Envelope, L: Ledger>(
+fn make_call<E: Envelope, L: Ledger>(
     alloc: Global,
     parties: &mut [Party],
     messages: &mut Vec<Bytes>,
@@ -213,7 +213,7 @@ pub fn lines_met<E: Envelope, L: Ledger>(
     let mut messages = Vec::new(alloc);
     let mut met = 0;
     for line in lines {
-        let said = call(alloc, parties, &mut messages, line, env, steps)?;
+        let said = make_call(alloc, parties, &mut messages, line, env, steps)?;
         if said != line.2 || held(parties, line.0) != line.3 {
             return Ok(met);
         }

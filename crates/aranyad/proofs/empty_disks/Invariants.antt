@@ -1,5 +1,5 @@
 use Rattle.std.proofs.Common.{◌≡◌, length}
 use Rattle.aranyad.proofs.empty_disks.Given as goal
 
-abbrev pub invariant-loop-alloc : goal.invariant-loop-alloc
-invariant-loop-alloc l = length l.disks.items ≡ l.counter
+abbrev pub invariant-loop : goal.invariant-loop
+invariant-loop l = length l.disks.items ≡ l.counter

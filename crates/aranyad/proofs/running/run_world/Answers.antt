@@ -1,4 +1,4 @@
-use Rattle.std.proofs.Common.{◌≡◌, length, refl, ◌∙◌}
+use Rattle.std.proofs.Common.{◌≡◌, refl, ◌∙◌}
 use Rattle.world.specs.Lines.{Tags}
 use Rattle.world.specs.Worlds.{opened}
 use Rattle.aranyad.specs.Scripts.{names_of}

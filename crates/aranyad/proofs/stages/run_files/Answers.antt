@@ -1,4 +1,3 @@
-use Rattle.outside.specs.Files.{Holding}
 use Rattle.world.specs.Lines.{Tags}
 use Rattle.aranyad.specs.Loading.{IsLoaded, limited, policy_limit, script_limit}
 use Rattle.aranyad.specs.Runs.{RunsPolicy}
