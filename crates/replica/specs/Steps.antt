@@ -1,15 +1,47 @@
--- How a call of a replica goes: it does what is asked, or refuses it. Memory may lack in place of either.
-use Rattle.std.specs.Prelude.{◌≡◌, ◌⊎◌, Result, Ok, Err}
-use Rattle.replica.specs.Kept.{Kept}
+-- How a call of a replica goes: it does what is asked, or refuses it, or its disk fails. Memory may lack in place of each.
+use Rattle.std.specs.Prelude.{◌≡◌, ◌⊎◌, Option, Some, None, Result, Ok, Err}
+use Rattle.braid_run.specs.States.{Held}
+use Rattle.journal.specs.declared.commit.Commit.{Commit}
+use Rattle.outside.specs.declared.faults.DiskStep.{DiskStep}
+use Rattle.replica.specs.Fronts.{behind_commit, front_of}
+use Rattle.replica.specs.Kept.{IsUpWith, Kept}
+use Rattle.replica.specs.declared.down.Down.{Down}
 use Rattle.replica.specs.declared.refusal.Refusal.{Refusal}
 use Rattle.replica.specs.declared.refusal.Refusal.TheVariants as refusal
 
--- It gives a reply and leaves the replica as asked, or refuses for a reason that stands and leaves the replica as it was.
-abbrev pub IsStep : {T D : Type 0} → (T → Kept D → Type 0) → (Refusal → Type 0) → Kept D → Result T Refusal → Kept D → Type 0
-IsStep gives refuses old (Ok reply) new = gives reply new
-IsStep gives refuses old (Err why) new = (new ≡ old) × ((why ≡ refusal.NoMemory) ⊎ refuses why)
+module _ {D : Type 0} (old : Kept D) where
+  -- A replica that is down says so, and at which step its disk failed.
+  abbrev pub SaysDown : Refusal → Type 0
+  SaysDown why = (down : Down) × (old.down ≡ Some down) × (why ≡ refusal.Down down.step)
 
--- The same of a call that changes nothing.
+  -- It would have given a reply and have held what a commit leads to, but the disk failed at that commit: it holds what it held, is down, and the
+  -- commit is loose.
+  pub record FailsIn {T : Type 0} (gives : T → Held → Type 0) (step : DiskStep) (new : Kept D) : Type 0 where
+    pub reply : T
+    pub held : Held
+    pub gives : gives reply held
+    pub commit : Commit
+    pub leads : front_of held ≡ behind_commit (front_of old.held) commit
+    pub same : new ≡ record old { disk = new.disk; down = Some (record { step = step; loose = Some commit }) }
+
+  -- It refuses for a reason that stands, and all stays; or its disk fails; or it is down, and all stays.
+  abbrev pub Refuses : {T : Type 0} → (T → Held → Type 0) → (Refusal → Type 0) → Refusal → Kept D → Type 0
+  Refuses gives refuses why new =
+      ((old.down ≡ None) × ((why ≡ refusal.NoMemory) ⊎ refuses why) × (new ≡ old))
+      ⊎ ((old.down ≡ None) × ((step : DiskStep) × (why ≡ refusal.DiskFault step) × FailsIn gives step new))
+      ⊎ (SaysDown why × (new ≡ old))
+
+  -- It is up, gives a reply and holds what was asked for; or refuses.
+  abbrev pub IsStep : {T : Type 0} → (T → Held → Type 0) → (Refusal → Type 0) → Result T Refusal → Kept D → Type 0
+  IsStep gives refuses (Ok reply) new = (old.down ≡ None) × ((held : Held) × gives reply held × IsUpWith old held new)
+  IsStep gives refuses (Err why) new = Refuses gives refuses why new
+
+  -- The same of a call that changes nothing.
+  abbrev pub IsReplyOf : {T : Type 0} → (T → Type 0) → (Refusal → Type 0) → Result T Refusal → Type 0
+  IsReplyOf gives refuses (Ok reply) = (old.down ≡ None) × gives reply
+  IsReplyOf gives refuses (Err why) = ((old.down ≡ None) × ((why ≡ refusal.NoMemory) ⊎ refuses why)) ⊎ SaysDown why
+
+-- A reply, or a refusal for a reason that stands, of whatever replica.
 abbrev pub IsReply : {T : Type 0} → (T → Type 0) → (Refusal → Type 0) → Result T Refusal → Type 0
 IsReply gives refuses (Ok reply) = gives reply
 IsReply gives refuses (Err why) = (why ≡ refusal.NoMemory) ⊎ refuses why

@@ -7,13 +7,16 @@ ghost use Rattle.replica.specs.working.Changes.{IsDone, refused_by};
 ghost use Rattle.transaction.specs.declared.fault.ActFault.TheVariants as act_fault;
 
 use crate::counts::Published;
+use crate::down::Down;
+use crate::joining::write;
 use crate::refusal::Refusal;
 use base_bytes::{Arg, Id, Steps, Text};
 use braid_run::State;
 use braid_run::laws::lists_have_one_run;
 use command::Graph;
 use fact_store::FactBase;
-use outside::Envelope;
+use journal::{Commit, Journal};
+use outside::{Disk, Envelope};
 use policy_meaning::Runner;
 use std::alloc::Global;
 use std::sync::ledger::Ledger;
@@ -42,11 +45,49 @@ fn published<F: FactBase>(entries: usize, prepared: &Prepared<F>) -> Published
     }
 }
 
+/// Adds what an action published, once the journal has it. An action that publishes nothing writes nothing.
+fn commit_action<G: Graph, F: FactBase, D: Disk>(
+    alloc: Global,
+    journal: &mut Journal<D>,
+    down: &mut Option<Down>,
+    state: &mut State<G, F>,
+    prepared: Prepared<F>,
+) -> Result<(), Refusal> {
+    let Prepared {
+        commands,
+        merges,
+        entries,
+        facts,
+    } = prepared;
+    if commands.len() == 0 {
+        return Ok(());
+    }
+    let commit = Commit::Commands(commands);
+    let ready = journal.ready(alloc, &commit)?;
+    match write(journal, down, commit, ready)? {
+        Commit::Commands(commands) => {
+            apply(
+                state,
+                Prepared {
+                    commands,
+                    merges,
+                    entries,
+                    facts,
+                },
+            );
+            Ok(())
+        }
+        Commit::Graph(_) => unreachable!(),
+    }
+}
+
 /// Runs an action on the state of a replica, and adds all that it publishes or nothing.
-pub fn act_on<R: Runner, G: Graph, F: FactBase, E: Envelope, L: Ledger>(
+pub fn act_on<R: Runner, G: Graph, F: FactBase, D: Disk, E: Envelope, L: Ledger>(
     alloc: Global,
     runner: &R,
     digest: &Id,
+    journal: &mut Journal<D>,
+    down: &mut Option<Down>,
     state: &mut State<G, F>,
     author: &Id,
     action: &Text,
@@ -75,7 +116,7 @@ pub fn act_on<R: Runner, G: Graph, F: FactBase, E: Envelope, L: Ledger>(
     ) {
         Ok(prepared) => {
             let counts = published(state.entries().len(), &prepared);
-            apply(state, prepared);
+            commit_action(alloc, journal, down, state, prepared)?;
             Ok(counts)
         }
         Err(fault) => Err(refused(fault)),

@@ -3,14 +3,18 @@
 
 mod acting;
 mod counts;
+mod down;
 mod front;
+mod joining;
 pub mod laws;
 mod messages;
+mod opening;
 mod refusal;
 mod replica;
 mod taking;
 
 pub use counts::{Published, Refused, Taken};
+pub use down::Down;
 pub use journal::OpenFault;
 pub use refusal::Refusal;
 pub use replica::Replica;

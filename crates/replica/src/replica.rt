@@ -1,51 +1,56 @@
-ghost use Rattle.std.specs.Prelude.{◌≡◌, ◌+◌, ◌≤◌, true, false, None, Err, Ok, length, option_map, IfErr, IfOk};
-ghost use Rattle.journal.specs.declared.fault.OpenFault.TheVariants as open_fault;
+ghost use Rattle.std.specs.Prelude.{◌≡◌, ◌+◌, ◌≤◌, ℕ, Bool, List, None, Err, Ok, IfErr, IfOk, IsTrue, length, true};
 ghost use Rattle.outside.specs.Causes.{Rose};
 ghost use Rattle.outside.specs.Envelope.{author_id};
 ghost use Rattle.policy_rules.specs.WellTyped.{IsWellTyped};
-ghost use Rattle.replica.specs.Calls.{ActsIn, Answers, Asks, AsksNext, Begins, Joins, TakesIn, TakesTwice};
-ghost use Rattle.replica.specs.Kept.{IsReplica, begun, criteria_of};
-ghost use Rattle.replica.specs.Messages.{IsResponseRead};
-ghost use Rattle.replica.specs.Steps.{IsReply};
+ghost use Rattle.replica.specs.Calls.{ActsIn, Answers, Asks, AsksNext, Begins, IsOpened, Joins, Restarts, StaysAtRestart, TakesIn, TakesTwice, opened_disk, opened_front, restart_opens};
+ghost use Rattle.replica.specs.Disks.{AreSoundFronts, FailsWithDisk, IsTrusted, OpensWhole, OpensWithDisk, Survives, Withstands};
+ghost use Rattle.replica.specs.Fronts.{AnswersOpening};
+ghost use Rattle.replica.specs.Kept.{IsReplica, criteria_of, step_of};
 ghost use Rattle.replica.specs.declared.refusal.Refusal.TheVariants as refusal;
-ghost use Rattle.replica.specs.working.Changes.{IsReady};
-ghost use Rattle.sync_codec.specs.declared.response.Response.{Response as TheResponse};
 ghost use Rattle.transaction.specs.declared.fault.ActFault.TheVariants as act_fault;
 
 use crate::acting::act_on;
 use crate::counts::{Published, Taken};
 use crate::messages::{request_for, response_for};
+use crate::down::Down;
+use crate::joining::join_on;
+use crate::opening::opened_state;
 use crate::refusal::Refusal;
-use crate::taking::{Ready, adopt, prepare_take};
+use crate::taking::{Ready, commit_change, prepare_take};
 use base_bytes::{Arg, Bytes, Id, NoMemory, Steps, Text};
 use braid_run::State;
 use command::Graph;
 use fact_store::FactBase;
-use journal::OpenFault;
+use journal::{Journal, OpenFault, open_journal};
 use outside::{Disk, DiskStep, Envelope, author_of};
 use policy_ast::Policy;
 use policy_meaning::Runner;
 use std::alloc::Global;
 use std::marker::Model;
+use std::mem;
 use std::sync::ledger::Ledger;
 use sync_peer::{answer_to, first_request, next_request};
 
-/// A replica: what it holds of one graph under one policy, and its disk. Contracts see what it keeps. Of every replica it is known that its state is
-/// sound for its policy, but for the tags of commands, of which only an envelope tells.
+/// A replica: what it holds of one graph under one policy, and the journal of that on its disk. Contracts see what it keeps. Of every replica it is
+/// known that its state is sound for its policy, but for the tags of commands, of which only an envelope tells; and that its disk, where it is honest and
+/// tells its content, has the journal of that state, but for a commit in which it failed.
 #[derive(Drop)]
 pub struct Replica<R: Runner, G: Graph, F: FactBase, D: Disk> {
     runner: R,
     digest: Id,
     author: Id,
     state: State<G, F>,
-    disk: D,
+    journal: Journal<D>,
+    down: Option<Down>,
 }
 
 impl<R: Runner, G: Graph, F: FactBase, D: Disk> Model for Replica<R, G, F, D> {
     ghost use Rattle.std.specs.Coded.{codes};
     ghost use Rattle.base_bytes.specs.contracts.value.Value as value;
     ghost use Rattle.policy_ast.specs.contracts.policy.PlacedItem as placed_item;
+    ghost use Rattle.journal.specs.Calls.{journal_disk, journal_failed, journal_outline};
     ghost use Rattle.replica.specs.Kept.{IsReplica, Kept};
+    ghost use Rattle.replica.specs.working.Backing.{IsBacked};
 
     ghost Value = { Kept D };
 
@@ -56,47 +61,85 @@ impl<R: Runner, G: Graph, F: FactBase, D: Disk> Model for Replica<R, G, F, D> {
       digest = r.digest;
       author = r.author;
       held = r.state.held;
-      disk = r.disk;
+      down = r.down;
+      disk = journal_disk r.journal;
+      outline = journal_outline r.journal;
     } };
 
-    ghost invariant = { λ r. IsReplica (R.rules r.runner) r.digest r.state.held };
+    ghost invariant = { λ r. IsReplica (R.rules r.runner) r.digest r.state.held × IsBacked (record { tells = D.tells; content = D.content; honest = D.honest }) r.digest r.state.held r.down r.journal };
 }
 
 impl<R: Runner, G: Graph, F: FactBase, D: Disk> Replica<R, G, F, D> {
-    /// The empty replica of this name under the runner's policy, whose document has this digest. The disk is left as it is. Without memory the runner
-    /// and the disk are handed back.
+    /// Opens a replica of this name on a disk, under the runner's policy, whose document has this digest: with what the journal on the disk holds, whose
+    /// commands are admitted in order; empty where no journal was begun. A disk whose journal isn't whole, isn't of this policy, or holds a command that
+    /// isn't added is refused by name. A refusal hands the runner and the disk back.
     pub fn open_on<E: Envelope>(
         alloc: Global,
         runner: R,
         name: &Text,
         digest: &Id,
         disk: D,
-        _env: &E,
+        env: &E,
     ) -> Result<Replica<R, G, F, D>, (OpenFault, R, D)>
-        ensures opens { IfOk result (λ replica. replica ≡ begun (R.rules runner) digest.now (author_id name.now) disk) }
-        ensures refuses { IfErr result (λ refused. (refused.0 ≡ open_fault.NoMemory) × (refused.1 ≡ runner) × (refused.2 ≡ disk)) }
+        ensures opened { IfOk result (λ replica. IsOpened (R.rules runner) digest.now (author_id name.now) replica) }
+        ensures sound { IfOk result (λ replica. AreSoundFronts E.good replica) }
+        ensures opens { IsTrue D.tells → AnswersOpening (record { policy = R.rules runner; digest = digest.now; good = E.good }) (D.content disk).reads (opened_front result) }
+        ensures runner { IfErr result (λ refused. refused.1 ≡ runner) }
+        ensures crash { IsTrue D.tells → IsTrue (D.honest disk) → OpensWhole (record { policy = R.rules runner; digest = digest.now; good = E.good }) (D.content disk) (D.content (opened_disk result)) }
+        ensures trusted { IsTrue D.tells → IsTrue (D.honest disk) → IfOk result (λ replica. IsTrusted E.good (record { tells = D.tells; content = D.content; honest = D.honest }) replica
+            × Survives E.good (record { tells = D.tells; content = D.content; honest = D.honest }) replica) }
+        ensures honest { D.honest (opened_disk result) ≡ D.honest disk }
+        ensures cause { OpensWithDisk D.faults D.last_step disk (opened_disk result) (opened_front result) }
     {
-        match State::empty(alloc) {
+        let (journal, commits) = match open_journal(alloc, disk, digest) {
+            Ok(found) => found,
+            Err((fault, disk)) => return Err((fault, runner, disk)),
+        };
+        match opened_state::<R, G, F, E>(alloc, &runner, digest, commits.as_slice(), env) {
             Ok(state) => Ok(Replica {
                 runner,
                 digest: *digest,
                 author: author_of(name),
                 state,
-                disk,
+                journal,
+                down: None,
             }),
-            Err(NoMemory) => Err((OpenFault::NoMemory, runner, disk)),
+            Err(fault) => Err((fault, runner, journal.into_disk())),
         }
     }
 
+    /// Whether it is up; and else at which step its disk failed.
+    fn check_up(&self) -> Result<(), Refusal> {
+        match &self.down {
+            Some(down) => Err(Refusal::Down(down.step)),
+            None => Ok(()),
+        }
+    }
+
+    /// Its disk failed again at this step, with nothing written.
+    fn fall(&mut self, step: DiskStep) -> Refusal {
+        let loose = match mem::replace(&mut self.down, None) {
+            Some(down) => down.loose,
+            None => None,
+        };
+        self.down = Some(Down { step, loose });
+        Refusal::DiskFault(step)
+    }
+
     /// Names the graph, where the replica has no graph id yet.
-    pub fn join(&mut self, _alloc: Global, graph: &Id) -> Result<(), Refusal>
+    pub fn join(&mut self, alloc: Global, graph: &Id) -> Result<(), Refusal>
         ensures step { Joins self.old graph.now result self.new }
+        ensures sound { (good : List ℕ → List ℕ → List ℕ → Bool) → AreSoundFronts good self.old → AreSoundFronts good self.new }
+        ensures crash { (good : List ℕ → List ℕ → List ℕ → Bool) → IsTrusted good (record { tells = D.tells; content = D.content; honest = D.honest }) self.old
+            → Withstands good (record { tells = D.tells; content = D.content; honest = D.honest }) self.old self.new }
+        ensures honest { D.honest self.new.disk ≡ D.honest self.old.disk }
+        ensures disk { FailsWithDisk D.faults D.last_step self.old.disk self.new.disk result }
     {
+        self.check_up()?;
         if self.state.graph_id().is_some() {
             return Err(Refusal::HasGraph);
         }
-        self.state.name_graph(*graph);
-        Ok(())
+        join_on(alloc, &mut self.journal, &mut self.down, &mut self.state, graph)
     }
 
     /// Runs an action, and adds all that it publishes or nothing.
@@ -114,11 +157,19 @@ impl<R: Runner, G: Graph, F: FactBase, D: Disk> Replica<R, G, F, D> {
         ensures ticks { IfOk result (λ counts. steps.new ≡ steps.old + counts.commands) }
         ensures later { E.faults env.old ≤ E.faults env.new }
         ensures cause { IfErr result (λ why. why ≡ refusal.Act act_fault.SealFault → Rose (E.faults env.old) (E.faults env.new)) }
+        ensures sound { AreSoundFronts E.good self.old → AreSoundFronts E.good self.new }
+        ensures crash { IsTrusted E.good (record { tells = D.tells; content = D.content; honest = D.honest }) self.old
+            → Withstands E.good (record { tells = D.tells; content = D.content; honest = D.honest }) self.old self.new }
+        ensures honest { D.honest self.new.disk ≡ D.honest self.old.disk }
+        ensures disk { FailsWithDisk D.faults D.last_step self.old.disk self.new.disk result }
     {
+        self.check_up()?;
         let counts = act_on(
             alloc,
             &self.runner,
             &self.digest,
+            &mut self.journal,
+            &mut self.down,
             &mut self.state,
             &self.author,
             action,
@@ -143,7 +194,13 @@ impl<R: Runner, G: Graph, F: FactBase, D: Disk> Replica<R, G, F, D> {
         ensures ticks { IfOk result (λ counts. steps.new ≡ steps.old + counts.commands) }
         ensures later { E.faults env.old ≤ E.faults env.new }
         ensures cause { IfErr result (λ why. why ≡ refusal.Act act_fault.SealFault → Rose (E.faults env.old) (E.faults env.new)) }
+        ensures sound { AreSoundFronts E.good self.old → AreSoundFronts E.good self.new }
+        ensures crash { IsTrusted E.good (record { tells = D.tells; content = D.content; honest = D.honest }) self.old
+            → Withstands E.good (record { tells = D.tells; content = D.content; honest = D.honest }) self.old self.new }
+        ensures honest { D.honest self.new.disk ≡ D.honest self.old.disk }
+        ensures disk { FailsWithDisk D.faults D.last_step self.old.disk self.new.disk result }
     {
+        self.check_up()?;
         let known = self.state.graph_id().is_some();
         if known {
             return Err(Refusal::HasGraph);
@@ -164,6 +221,11 @@ impl<R: Runner, G: Graph, F: FactBase, D: Disk> Replica<R, G, F, D> {
         ensures ticks { IfOk result (λ counts. steps.new ≡ steps.old + counts.commands) }
         ensures later { E.faults env.old ≤ E.faults env.new }
         ensures cause { IfErr result (λ why. why ≡ refusal.Act act_fault.SealFault → Rose (E.faults env.old) (E.faults env.new)) }
+        ensures sound { AreSoundFronts E.good self.old → AreSoundFronts E.good self.new }
+        ensures crash { IsTrusted E.good (record { tells = D.tells; content = D.content; honest = D.honest }) self.old
+            → Withstands E.good (record { tells = D.tells; content = D.content; honest = D.honest }) self.old self.new }
+        ensures honest { D.honest self.new.disk ≡ D.honest self.old.disk }
+        ensures disk { FailsWithDisk D.faults D.last_step self.old.disk self.new.disk result }
     {
         self.run_action(alloc, action, args, false, env, steps)
     }
@@ -172,6 +234,7 @@ impl<R: Runner, G: Graph, F: FactBase, D: Disk> Replica<R, G, F, D> {
     pub fn ask(&self, alloc: Global) -> Result<Bytes, Refusal>
         ensures reply { Asks self.now result }
     {
+        self.check_up()?;
         let Some(id) = self.state.graph_id() else {
             return Err(Refusal::NoGraph);
         };
@@ -183,6 +246,7 @@ impl<R: Runner, G: Graph, F: FactBase, D: Disk> Replica<R, G, F, D> {
     pub fn next(&self, alloc: Global, response: &[u8]) -> Result<Option<Bytes>, Refusal>
         ensures reply { AsksNext self.now response.now result }
     {
+        self.check_up()?;
         let response = response_for(alloc, response, &self.state.graph_id())?;
         let Some(request) = next_request(alloc, &response)? else {
             return Ok(None);
@@ -194,6 +258,7 @@ impl<R: Runner, G: Graph, F: FactBase, D: Disk> Replica<R, G, F, D> {
     pub fn answer(&self, alloc: Global, request: &[u8]) -> Result<Bytes, Refusal>
         ensures reply { Answers self.now request.now result }
     {
+        self.check_up()?;
         let request = request_for(alloc, request, &self.state.graph_id())?;
         let response = answer_to(alloc, self.state.graph(), &request)?;
         Ok(response.to_bytes(alloc)?)
@@ -234,9 +299,15 @@ impl<R: Runner, G: Graph, F: FactBase, D: Disk> Replica<R, G, F, D> {
         steps: &mut Steps<L>,
     ) -> Result<Taken, Refusal>
         ensures step { TakesIn self.old E.good response.now result self.new }
+        ensures sound { AreSoundFronts E.good self.old → AreSoundFronts E.good self.new }
+        ensures crash { IsTrusted E.good (record { tells = D.tells; content = D.content; honest = D.honest }) self.old
+            → Withstands E.good (record { tells = D.tells; content = D.content; honest = D.honest }) self.old self.new }
+        ensures honest { D.honest self.new.disk ≡ D.honest self.old.disk }
+        ensures disk { FailsWithDisk D.faults D.last_step self.old.disk self.new.disk result }
     {
+        self.check_up()?;
         let Ready { taken, change } = self.prepare_take(alloc, response, env, steps)?;
-        adopt(alloc, &mut self.state, change)?;
+        commit_change(alloc, &mut self.journal, &mut self.down, &mut self.state, change)?;
         Ok(taken)
     }
 
@@ -249,19 +320,47 @@ impl<R: Runner, G: Graph, F: FactBase, D: Disk> Replica<R, G, F, D> {
         steps: &mut Steps<L>,
     ) -> Result<(Taken, Taken), Refusal>
         ensures step { TakesTwice self.old E.good response.now result self.new }
+        ensures sound { AreSoundFronts E.good self.old → AreSoundFronts E.good self.new }
+        ensures crash { IsTrusted E.good (record { tells = D.tells; content = D.content; honest = D.honest }) self.old
+            → Withstands E.good (record { tells = D.tells; content = D.content; honest = D.honest }) self.old self.new }
+        ensures honest { D.honest self.new.disk ≡ D.honest self.old.disk }
+        ensures disk { FailsWithDisk D.faults D.last_step self.old.disk self.new.disk result }
     {
+        self.check_up()?;
         let Ready { taken, change } = self.prepare_take(alloc, response, env, steps)?;
         let twin = taken.copy(alloc)?;
-        adopt(alloc, &mut self.state, change)?;
+        commit_change(alloc, &mut self.journal, &mut self.down, &mut self.state, change)?;
         Ok((taken, twin))
     }
 
-    /// How many commands are held.
-    pub fn restart<E: Envelope>(&mut self, _alloc: Global, _env: &E) -> Result<usize, Refusal>
-        ensures held { result ≡ Ok (length self.old.held.commands) }
-        ensures same { self.new ≡ self.old }
+    /// Opens the disk again, takes what its journal holds, and answers how many commands are held. While the disk returns what was written, what is held
+    /// stays, or has the commit at which the disk failed. A refusal leaves the replica as it was.
+    pub fn restart<E: Envelope>(&mut self, alloc: Global, env: &E) -> Result<usize, Refusal>
+        ensures step { Restarts self.old result self.new }
+        ensures opens { IsTrue D.tells → AnswersOpening (criteria_of E.good self.old) (D.content self.old.disk).reads (restart_opens result self.new) }
+        ensures stays { IsTrusted E.good (record { tells = D.tells; content = D.content; honest = D.honest }) self.old → StaysAtRestart self.old result self.new }
+        ensures sound { AreSoundFronts E.good self.old → AreSoundFronts E.good self.new }
+        ensures crash { IsTrusted E.good (record { tells = D.tells; content = D.content; honest = D.honest }) self.old
+            → Withstands E.good (record { tells = D.tells; content = D.content; honest = D.honest }) self.old self.new }
+        ensures honest { D.honest self.new.disk ≡ D.honest self.old.disk }
+        ensures disk { FailsWithDisk D.faults D.last_step self.old.disk self.new.disk result }
     {
-        Ok(self.state.graph().len())
+        let (reopened, commits) = match self.journal.reopen(alloc, &self.digest) {
+            Ok(found) => found,
+            Err(OpenFault::DiskFault(step)) => return Err(self.fall(step)),
+            Err(OpenFault::NoMemory) => return Err(Refusal::NoMemory),
+            Err(fault) => return Err(Refusal::Journal(fault)),
+        };
+        match opened_state::<R, G, F, E>(alloc, &self.runner, &self.digest, commits.as_slice(), env) {
+            Ok(state) => {
+                self.journal.adopt(reopened);
+                self.state = state;
+                self.down = None;
+                Ok(self.state.graph().len())
+            }
+            Err(OpenFault::NoMemory) => Err(Refusal::NoMemory),
+            Err(fault) => Err(Refusal::Journal(fault)),
+        }
     }
 
     /// Its policy, which is well typed. Takes no memory.
@@ -288,15 +387,18 @@ impl<R: Runner, G: Graph, F: FactBase, D: Disk> Replica<R, G, F, D> {
 
     /// The step at which the disk failed, where it did. Takes no memory.
     pub fn down(&self) -> Option<DiskStep>
-        ensures { result ≡ None }
+        ensures { result ≡ step_of self.now.down }
     {
-        None
+        match &self.down {
+            Some(down) => Some(down.step),
+            None => None,
+        }
     }
 
     /// The disk, as it is. Takes no memory.
     pub fn into_disk(self) -> D
         ensures { result ≡ self.disk }
     {
-        self.disk
+        self.journal.into_disk()
     }
 }

@@ -11,7 +11,10 @@ ghost use Rattle.replica.specs.Kept.{IsReplica};
 ghost use Rattle.replica.specs.working.Changes.{CountsOne, IsReady, Reruns, changed};
 
 use crate::counts::{Refused, Taken};
+use crate::down::Down;
 use crate::front::shared_front;
+use crate::joining::write;
+use crate::refusal::Refusal;
 use accept::laws::added_commands_are_sound;
 use accept::{Admit, admit_in};
 use base_bytes::{Id, NoMemory, Steps};
@@ -21,7 +24,8 @@ use braid_run::{Entry, Ran, State, run_all};
 use command::{Command, Commands, Graph, id_of};
 use fact_store::FactBase;
 use graph_over::Over;
-use outside::Envelope;
+use journal::{Commit, Journal};
+use outside::{Disk, Envelope};
 use policy_meaning::Runner;
 use std::alloc::Global;
 use std::sync::ledger::Ledger;
@@ -61,7 +65,7 @@ fn count<G: Graph>(
 }
 
 /// Adds a copy of the command.
-fn add<G: Graph>(alloc: Global, over: &mut Over<'_, G>, command: &Command) -> Result<(), NoMemory>
+pub fn add<G: Graph>(alloc: Global, over: &mut Over<'_, G>, command: &Command) -> Result<(), NoMemory>
     requires few { length (G.commands over.old.base.now ++ over.old.added.items) < max_commands }
     requires next { IsNext (G.commands over.old.base.now ++ over.old.added.items) command.now }
     ensures base { G.commands over.new.base.now ≡ G.commands over.old.base.now }
@@ -166,14 +170,14 @@ pub struct Change<F: FactBase> {
 
 /// The change by what was added, and where the new entries part from those before, and how many follow.
 #[derive(Drop)]
-struct AddedRun<F: FactBase> {
-    change: Change<F>,
-    cut: usize,
-    entries: usize,
+pub struct AddedRun<F: FactBase> {
+    pub change: Change<F>,
+    pub cut: usize,
+    pub entries: usize,
 }
 
 /// Runs the braid of all that is held once the commands are added. These are the entries before.
-fn rerun<R: Runner, G: Graph, F: FactBase, L: Ledger>(
+pub fn rerun<R: Runner, G: Graph, F: FactBase, L: Ledger>(
     alloc: Global,
     runner: &R,
     olds: &[Entry],
@@ -286,6 +290,29 @@ fn extend<G: Graph, F: FactBase>(
     state.reserve(alloc, commands.len(), ran.entries.len())?;
     state.extend(commands, 0, ran);
     Ok(())
+}
+
+/// Makes the change of a take, once the journal has the commands. A take that adds nothing writes nothing.
+pub fn commit_change<G: Graph, F: FactBase, D: Disk>(
+    alloc: Global,
+    journal: &mut Journal<D>,
+    down: &mut Option<Down>,
+    state: &mut State<G, F>,
+    change: Option<Change<F>>,
+) -> Result<(), Refusal> {
+    let Some(Change { commands, ran }) = change else {
+        return Ok(());
+    };
+    state.reserve(alloc, commands.len(), ran.entries.len())?;
+    let commit = Commit::Commands(commands);
+    let ready = journal.ready(alloc, &commit)?;
+    match write(journal, down, commit, ready)? {
+        Commit::Commands(commands) => {
+            state.extend(commands, 0, ran);
+            Ok(())
+        }
+        Commit::Graph(_) => unreachable!(),
+    }
 }
 
 /// Makes the change of a take; without memory the state stays as it was.

@@ -1,0 +1,173 @@
+//! What the commits of a journal lead to: their commands, admitted one after another.
+
+ghost use Rattle.std.specs.Prelude.{◌≡◌, ◌⊎◌, ◌++◌, ◌∷◌, [], ℕ, ⊥, None, Err, IfErr, IfOk, IsTrue, true, false};
+ghost use Rattle.std.specs.List.{AllByRecursion};
+ghost use Rattle.braid_run.specs.Soundness.{IsSound};
+ghost use Rattle.braid_run.specs.States.{IsStanding};
+ghost use Rattle.command.specs.Wire.{IsFormed};
+ghost use Rattle.journal.specs.Commits.{IsCommitForm};
+ghost use Rattle.journal.specs.declared.fault.OpenFault.TheVariants as fault;
+ghost use Rattle.replica.specs.Fronts.{Admits, AreAdmitted, IsDamaged, Opens, behind_commit, front_of, no_front};
+ghost use Rattle.replica.specs.Kept.{IsReplica};
+
+use crate::taking::{add, adopt, rerun};
+use accept::{Admit, admit_in};
+use base_bytes::{Id, NoMemory, Steps};
+use braid_run::State;
+use command::{Command, Graph, id_of};
+use fact_store::FactBase;
+use graph_over::Over;
+use journal::{Commit, OpenFault};
+use outside::Envelope;
+use policy_meaning::Runner;
+use std::alloc::Global;
+use std::marker::Brand;
+use std::sync::ledger::{Blank, Ledger};
+
+/// Admits a command over what is held and what was added so far, and adds it. False where it isn't added.
+fn admit_one<R: Runner, G: Graph, F: FactBase, E: Envelope, L: Ledger>(
+    alloc: Global,
+    runner: &R,
+    digest: &Id,
+    graph_id: &Option<Id>,
+    over: &mut Over<'_, G>,
+    command: &Command,
+    env: &E,
+    steps: &mut Steps<L>,
+) -> Result<bool, NoMemory>
+    requires formed { IsFormed command.now }
+    requires standing { IsStanding graph_id.now (G.commands over.old.base.now ++ over.old.added.items) }
+{
+    let answer = admit_in::<R, Over<'_, G>, F, E, L>(
+        alloc, runner, digest, graph_id, &*over, command, env, steps,
+    )?;
+    match answer {
+        Admit::Added => {
+            add(alloc, over, command)?;
+            Ok(true)
+        }
+        _ => Ok(false),
+    }
+}
+
+/// Admits commands one after another, up to the first that isn't added. False where there is one.
+fn admit_each<R: Runner, G: Graph, F: FactBase, E: Envelope, L: Ledger>(
+    alloc: Global,
+    runner: &R,
+    digest: &Id,
+    graph_id: &Option<Id>,
+    over: &mut Over<'_, G>,
+    commands: &[Command],
+    env: &E,
+    steps: &mut Steps<L>,
+) -> Result<bool, NoMemory> {
+    for command in commands {
+        if !admit_one::<R, G, F, E, L>(
+            alloc, runner, digest, graph_id, over, command, env, steps,
+        )? {
+            return Ok(false);
+        }
+    }
+    Ok(true)
+}
+
+/// The graph's id behind commands: the one that it has, or that of the first.
+fn named_by(graph_id: Option<Id>, commands: &[Command]) -> Option<Id> {
+    if graph_id.is_some() || commands.is_empty() {
+        return graph_id;
+    }
+    Some(id_of(&commands[0]))
+}
+
+/// Admits what a commit holds behind the others. False where it names a graph that has an id, or a command of it isn't added.
+fn admit_commit<R: Runner, G: Graph, F: FactBase, E: Envelope, L: Ledger>(
+    alloc: Global,
+    runner: &R,
+    digest: &Id,
+    graph_id: &mut Option<Id>,
+    over: &mut Over<'_, G>,
+    commit: &Commit,
+    env: &E,
+    steps: &mut Steps<L>,
+) -> Result<bool, NoMemory> {
+    match commit {
+        Commit::Graph(id) => {
+            if graph_id.is_some() {
+                return Ok(false);
+            }
+            *graph_id = Some(*id);
+            Ok(true)
+        }
+        Commit::Commands(commands) => {
+            *graph_id = named_by(*graph_id, commands.as_slice());
+            admit_each::<R, G, F, E, L>(
+                alloc,
+                runner,
+                digest,
+                &*graph_id,
+                over,
+                commands.as_slice(),
+                env,
+                steps,
+            )
+        }
+    }
+}
+
+/// Admits commits one after another, each with the place of its gate, up to the first that isn't admitted whole. That one is damaged.
+fn admit_commits<R: Runner, G: Graph, F: FactBase, E: Envelope, L: Ledger>(
+    alloc: Global,
+    runner: &R,
+    digest: &Id,
+    graph_id: &mut Option<Id>,
+    over: &mut Over<'_, G>,
+    commits: &[(u64, Commit)],
+    env: &E,
+    steps: &mut Steps<L>,
+) -> Result<(), OpenFault> {
+    for (gate, commit) in commits {
+        if !admit_commit::<R, G, F, E, L>(
+            alloc, runner, digest, graph_id, over, commit, env, steps,
+        )? {
+            return Err(OpenFault::Damaged { offset: *gate });
+        }
+    }
+    Ok(())
+}
+
+/// The state that commits lead to, each with the place of its gate. The first that isn't admitted whole is damaged.
+pub fn opened_state<R: Runner, G: Graph, F: FactBase, E: Envelope>(
+    alloc: Global,
+    runner: &R,
+    digest: &Id,
+    commits: &[(u64, Commit)],
+    env: &E,
+) -> Result<State<G, F>, OpenFault>
+    requires forms { AllByRecursion (λ item. IsCommitForm item.1) commits.now }
+    ensures opens { IfOk result (λ state. Admits (record { policy = R.rules runner.now; digest = digest.now; good = E.good }) no_front commits.now (Opens (front_of state.held))) }
+    ensures damaged { (offset : ℕ) → result ≡ Err (fault.Damaged offset) → Admits (record { policy = R.rules runner.now; digest = digest.now; good = E.good }) no_front commits.now (IsDamaged offset) }
+    ensures fault { IfErr result (λ why. (why ≡ fault.NoMemory) ⊎ ((offset : ℕ) × (why ≡ fault.Damaged offset))) }
+    ensures replica { IfOk result (λ state. IsReplica (R.rules runner.now) digest.now state.held) }
+    ensures sound { IfOk result (λ state. IsSound (record { policy = R.rules runner.now; digest = digest.now; good = E.good }) state.held) }
+{
+    let mut state = State::<G, F>::empty(alloc)?;
+    let mut graph_id = None;
+    let mut over = Over::on(alloc, state.graph());
+    let mut steps = Steps::<Brand>::start(Blank::new(1));
+    admit_commits::<R, G, F, E, Brand>(
+        alloc,
+        runner,
+        digest,
+        &mut graph_id,
+        &mut over,
+        commits,
+        env,
+        &mut steps,
+    )?;
+    let rerun = rerun::<R, G, F, Brand>(alloc, runner, &[], over, &mut steps)?;
+    if let Some(id) = graph_id {
+        state.name_graph(id);
+    }
+    adopt(alloc, &mut state, Some(rerun.change))?;
+    Ok(state)
+}
