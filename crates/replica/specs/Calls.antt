@@ -1,5 +1,6 @@
 -- The calls of a replica, each as a step.
 use Rattle.std.specs.Prelude.{◌≡◌, ◌⊎◌, ⊥, ⊤, ℕ, Bool, List, length, Option, Some, None, IsSome, Result, Ok, Err}
+use Rattle.braid_run.specs.RunOf.{IsRunOf}
 use Rattle.braid_run.specs.States.{Held}
 use Rattle.journal.specs.declared.commit.Commit.{Commit}
 use Rattle.journal.specs.declared.fault.OpenFault.{OpenFault}
@@ -91,7 +92,7 @@ module _ {D : Type 0} (old : Kept D) where
   -- A restart: the replica is up again, with what its disk reads, and says how many commands it holds; or the journal is refused, or memory lacks, and
   -- all stays but the disk; or the disk fails again, and the replica is down, with the loose commit that it had.
   abbrev pub Restarts : Result ℕ Refusal → Kept D → Type 0
-  Restarts (Ok count) new = (held : Held) × (count ≡ length held.commands) × IsUpWith old held new
+  Restarts (Ok count) new = (held : Held) × (count ≡ length held.commands) × IsRunOf old.policy held.commands held.rows held.entries × IsUpWith old held new
   Restarts (Err why) new =
       (((why ≡ refusal.NoMemory) ⊎ ((cause : OpenFault) × IsRefusedJournal cause × (why ≡ refusal.Journal cause))) × (new ≡ record old { disk = new.disk }))
       ⊎ ((step : DiskStep) × (why ≡ refusal.DiskFault step) × (new ≡ record old { disk = new.disk; down = Some (record { step = step; loose = loose_of old.down }) }))
@@ -115,6 +116,7 @@ abbrev pub opened_disk : {R D : Type 0} → Result (Kept D) (OpenFault × R × D
 opened_disk (Ok kept) = kept.disk
 opened_disk (Err refused) = refused.2
 
--- A replica as it is opened: up, of this policy and author.
+-- A replica as it is opened: up, of this policy and author, with the run of what it holds.
 pub record IsOpened {D : Type 0} (policy : List PlacedItem) (digest author : List ℕ) (kept : Kept D) : Type 0 where
+  pub run : IsRunOf policy kept.held.commands kept.held.rows kept.held.entries
   pub same : kept ≡ record { policy = policy; digest = digest; author = author; held = kept.held; down = None; disk = kept.disk; outline = kept.outline }
