@@ -5,4 +5,5 @@ pub mod Replies
 pub mod Sessions
 pub mod Lines
 pub mod Stops
+pub mod Crashes
 pub mod working

@@ -6,7 +6,7 @@ use Rattle.braid_run.specs.declared.entry.Entry.{Entry}
 use Rattle.fact_store.specs.declared.row.Row.{Row}
 use Rattle.policy_rules.specs.WellTyped.{items_of}
 use Rattle.replica.specs.Calls.{ActsIn, Answers, Asks, AsksNext, Begins, Joins, TakesIn}
-use Rattle.replica.specs.Kept.{Kept}
+use Rattle.replica.specs.Kept.{IsUpWith, Kept}
 use Rattle.replica.specs.declared.counts.Published.{Published}
 use Rattle.replica.specs.declared.counts.Taken.{Taken}
 use Rattle.replica.specs.declared.refusal.Refusal.{Refusal}
@@ -76,9 +76,9 @@ module _ {D : Type 0} where
   abbrev pub RunsJoin : Bytes → Bytes → List (Named D) → Bytes → List (Named D) → Type 0
   RunsJoin a b old text new = Of old a (λ own. Of old b (λ other. JoinsGraph a (graph_to_join own.held.graph_id other.held.graph_id) old text new))
 
-  -- `restart A`: one call, which changes nothing.
+  -- `restart A`: one call, behind which it holds what it held.
   abbrev pub RunsRestart : Bytes → List (Named D) → Bytes → List (Named D) → Type 0
-  RunsRestart a old text new = Of old a (λ kept. restarted_line a (Ok (length kept.held.commands)) ≡ Some text) × (new ≡ old)
+  RunsRestart a old text new = Changes old a (λ before after. IsUpWith before before.held after × (restarted_line a (Ok (length before.held.commands)) ≡ Some text)) new
 
   -- `ask A`: one call, as the line of a number. What is said, and the message that is made where the call isn't refused.
   abbrev pub SaysAsk : List (Named D) → Bytes → ℕ → Bytes → Option Bytes → Type 0

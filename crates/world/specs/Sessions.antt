@@ -36,7 +36,13 @@ abbrev pub synced_line : Bytes → Bytes → Result Sum Refusal → Option Bytes
 synced_line a b result = reply_text (codes "sync") (a ∷ b ∷ []) (synced_lines (a ∷ b ∷ [])) result
 
 module _ {D : Type 0} (good : List ℕ → List ℕ → List ℕ → Bool) (a b : Bytes) where
-  -- B answers a request, A takes the response, and asks for what follows or not.
+  -- B answers a request, and A takes the response.
+  pub record IsHalfRound (old : List (Named D)) (request : Bytes) (taken : Taken) (new : List (Named D)) : Type 0 where
+    pub response : Bytes
+    pub answer : Of old b (λ kept. Answers kept request (Ok response))
+    pub take : Changes old a (λ before after. TakesIn before good response (Ok taken) after) new
+
+  -- The same, and A asks for what follows or not.
   pub record IsRound (old : List (Named D)) (request : Bytes) (taken : Taken) (next : Result (Option Bytes) Refusal) (new : List (Named D)) : Type 0 where
     pub response : Bytes
     pub answer : Of old b (λ kept. Answers kept request (Ok response))

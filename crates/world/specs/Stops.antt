@@ -1,25 +1,48 @@
 -- What stops a run, and what a stop leaves.
-use Rattle.std.specs.Prelude.{◌≡◌, ◌⊎◌, ℕ, List, ◌++◌, Option, Result, Ok, Err}
+use Rattle.std.specs.Prelude.{◌≡◌, ◌⊎◌, ⊥, ℕ, ◌≤◌, Bool, IsTrue, List, [], ◌∷◌, ◌++◌, Result, Ok, Err}
+use Rattle.journal.specs.declared.fault.OpenFault.{OpenFault}
 use Rattle.outside.specs.Causes.{Rose}
+use Rattle.replica.specs.Calls.{IsRefusedJournal}
+use Rattle.replica.specs.Disks.{IsTrusted, Sense}
+use Rattle.replica.specs.Fronts.{AnswersOpening}
+use Rattle.replica.specs.Kept.{criteria_of}
 use Rattle.replica.specs.declared.counts.Taken.{Taken}
-use Rattle.replica.specs.declared.refusal.Refusal.{Refusal}
-use Rattle.replica.specs.declared.refusal.Refusal.TheVariants as refusal
-use Rattle.transaction.specs.declared.fault.ActFault.TheVariants as fault
 use Rattle.script.specs.declared.line.Line.{Line}
 use Rattle.script.specs.declared.line.Line.TheVariants as line
 use Rattle.script_texts.specs.Bytes.{Bytes}
 use Rattle.world.specs.Lines.{Runs, Tags}
-use Rattle.world.specs.Sessions.{Goes, IsRound, Sum}
-use Rattle.world.specs.Worlds.{Named, Site}
+use Rattle.world.specs.Sessions.{Goes, IsHalfRound, Sum}
+use Rattle.world.specs.Worlds.{AreAlike, EachPair, Named, Of, Site}
 use Rattle.world.specs.declared.stop.RunStop.{RunStop}
 use Rattle.world.specs.declared.stop.RunStop.TheVariants as stop
 
--- A stop has its cause: a failed seal, that the envelope's count rose; want of memory has none. No disk is used yet, so none fails, and no journal is refused.
-abbrev pub HasCause : ℕ → ℕ → RunStop → Type 0
-HasCause before now stop.DiskFault = ⊥
-HasCause before now stop.SealFault = Rose before now
-HasCause before now (stop.Journal name why) = ⊥
-HasCause before now stop.NoMemory = Unit {0}
+-- Of disks in their order the count of one rose.
+abbrev pub SomeRose : {D : Type 0} → (D → ℕ) → List D → List D → Type 0
+SomeRose faults [] new = ⊥
+SomeRose faults (d ∷ ds) [] = ⊥
+SomeRose faults (d ∷ ds) (e ∷ es) = Rose (faults d) (faults e) ⊎ SomeRose faults ds es
+
+-- The count of none fell.
+abbrev pub NoneFell : {D : Type 0} → (D → ℕ) → List D → List D → Type 0
+NoneFell faults old new = EachPair (λ d e. faults d ≤ faults e) old new
+
+-- A stop has its cause: a failed seal, that the envelope's count rose; a failed disk, that the count of some disk rose. What refuses a journal is said
+-- beside; want of memory has no cause.
+abbrev pub HasCause : {D : Type 0} → ℕ → ℕ → (D → ℕ) → List D → List D → RunStop → Type 0
+HasCause before now faults old new stop.DiskFault = SomeRose faults old new
+HasCause before now faults old new stop.SealFault = Rose before now
+HasCause before now faults old new (stop.Journal name why) = Unit {0}
+HasCause before now faults old new stop.NoMemory = Unit {0}
+
+-- A journal is refused at a restart alone: what the disk of the replica of that name reads is refused. It never is on a disk that is trusted.
+abbrev pub RefusesJournal : {D : Type 0} → Sense D → (List ℕ → List ℕ → List ℕ → Bool) → List (Named D) → Line → Bytes → OpenFault → Type 0
+RefusesJournal sense good replicas one name cause =
+    (one ≡ line.Restart name) × IsRefusedJournal cause × Of replicas name (λ kept. (IsTrue sense.tells → AnswersOpening (criteria_of good kept) (sense.content kept.disk).reads (Err cause)) × (IsTrusted good sense kept → ⊥))
+
+-- A restart gives back what was held where the disk is trusted. No other line asks for that.
+abbrev pub IsSteady : {D : Type 0} → Sense D → (List ℕ → List ℕ → List ℕ → Bool) → List (Named D) → Line → Type 0
+IsSteady sense good replicas (line.Restart a) = Of replicas a (IsTrusted good sense)
+IsSteady sense good replicas other = Unit {0}
 
 -- Only these lines ask for seals.
 abbrev pub Acts : Line → Type 0
@@ -27,36 +50,27 @@ Acts (line.Init a f args) = Unit {0}
 Acts (line.Act a f args) = Unit {0}
 Acts other = ⊥
 
--- What a refusal stops a run with, where it stops one. Nothing answers a fault of a disk yet, so a disk's stop is left for any such refusal.
-abbrev pub IsStopBy : Refusal → RunStop → Type 0
-IsStopBy (refusal.Act fault.SealFault) why = why ≡ stop.SealFault
-IsStopBy (refusal.Act fault.NoMemory) why = why ≡ stop.NoMemory
-IsStopBy (refusal.DiskFault step) why = why ≡ stop.DiskFault
-IsStopBy (refusal.Down step) why = why ≡ stop.DiskFault
-IsStopBy (refusal.Journal cause) why = why ≡ stop.DiskFault
-IsStopBy refusal.NoMemory why = why ≡ stop.NoMemory
-IsStopBy other why = ⊥
-
 module _ {D : Type 0} (tags : Tags) where
   -- So far a session came: some rounds, and maybe the answer and the take of one more.
   abbrev pub Came : Bytes → Bytes → List (Named D) → List (Named D) → Type 0
   Came a b old new =
       ((request : Bytes) × (sum : Sum) × Goes tags.good a b old new request sum) ⊎
-      ((mid : List (Named D)) × (request : Bytes) × (sum : Sum) × (taken : Taken) × (next : Result (Option Bytes) Refusal) × Goes tags.good a b old mid request sum × IsRound tags.good a b mid request taken next new)
+      ((mid : List (Named D)) × (request : Bytes) × (sum : Sum) × (taken : Taken) × Goes tags.good a b old mid request sum × IsHalfRound tags.good a b mid request taken new)
 
-  -- Some front of the events of a line: none of them, or all; or, of a session, some.
+  -- Of a session, some of its events.
   abbrev pub SomeOf : Line → List (Named D) → List (Named D) → Type 0
   SomeOf (line.Sync a b) old new = Came a b old new
   SomeOf other old new = ⊥
 
-  -- A stopped line leaves the replicas as a front of its events left them.
-  abbrev pub Stops : Site D → Line → Site D → Type 0
-  Stops old one new =
-      (new.replicas ≡ old.replicas) ⊎ ((text : Bytes) × (after : Site D) × Runs tags old one text after × (new.replicas ≡ after.replicas)) ⊎ SomeOf one old.replicas new.replicas
+  -- Some front of the events of a line leads to these replicas: none of them, or all; or, of a session, some.
+  abbrev pub IsFront : Site D → Line → List (Named D) → Type 0
+  IsFront old one replicas = (replicas ≡ old.replicas) ⊎ ((text : Bytes) × (after : Site D) × Runs tags old one text after × (replicas ≡ after.replicas)) ⊎ SomeOf one old.replicas replicas
 
-  -- All disks stay with the world.
+  -- A stopped line leaves what a front of its events led to. A replica whose disk failed is down. The disks that no replica uses stay.
   pub record LeavesFront (old : Site D) (one : Line) (new : Site D) : Type 0 where
-    pub front : Stops old one new
+    pub replicas : List (Named D)
+    pub front : IsFront old one replicas
+    pub alike : AreAlike replicas new.replicas
     pub spare : new.spare ≡ old.spare
 
   -- How a line goes: it has its text and leaves the world behind it, or it stops.

@@ -1,9 +1,7 @@
 -- What a world is: replicas by name, and the messages that were made.
-use Rattle.std.specs.Prelude.{◌≡◌, ℕ, ◌+◌, ◌-◌, ◌==◌, if◌then◌else◌, List, [], ◌∷◌, ◌++◌, drop, find, length, map, slice_get, Option, Some, None, option_and_then, option_map}
+use Rattle.std.specs.Prelude.{◌≡◌, ⊥, ℕ, ◌+◌, ◌-◌, ◌==◌, if◌then◌else◌, List, [], ◌∷◌, ◌++◌, find, length, map, slice_get, Option, Some, None, option_and_then, option_map}
 use Rattle.std.specs.Str.{bytes_eq}
-use Rattle.outside.specs.Envelope.{author_id}
-use Rattle.policy_ast.specs.declared.policy.PlacedItem.{PlacedItem}
-use Rattle.replica.specs.Kept.{Kept, begun}
+use Rattle.replica.specs.Kept.{Kept}
 use Rattle.script.specs.Scripts.{Declared}
 use Rattle.script_texts.specs.Bytes.{Bytes}
 
@@ -62,15 +60,21 @@ declared site = record { names = map (λ r. r.name) site.replicas; messages = le
 abbrev pub site_of : {D : Type 0} → List (Named D) → List (Option Bytes) → Site D
 site_of replicas messages = record { replicas = replicas; messages = messages; spare = [] }
 
--- The empty replicas of these names, each on the disk at its place.
-abbrev pub begun_on : {D : Type 0} → List PlacedItem → List ℕ → List Bytes → List D → List (Named D)
-begun_on policy digest [] disks = []
-begun_on policy digest (name ∷ names) [] = []
-begun_on policy digest (name ∷ names) (disk ∷ disks) = record { name = name; kept = begun policy digest (author_id name) disk } ∷ begun_on policy digest names disks
+-- As many of one list as of the other, and each two at one place are so.
+abbrev pub EachPair : {X Y : Type 0} → (X → Y → Type 0) → List X → List Y → Type 0
+EachPair are [] [] = Unit {0}
+EachPair are [] (y ∷ ys) = ⊥
+EachPair are (x ∷ xs) [] = ⊥
+EachPair are (x ∷ xs) (y ∷ ys) = are x y × EachPair are xs ys
 
--- The world as a run begins. The disks beyond those of the replicas are spare.
-abbrev pub opened : {D : Type 0} → List PlacedItem → List ℕ → List Bytes → List D → Site D
-opened policy digest names disks = record { replicas = begun_on policy digest names disks; messages = []; spare = drop (length names) disks }
+-- No replica is down.
+abbrev pub AreUp : {D : Type 0} → List (Named D) → Type 0
+AreUp [] = Unit {0}
+AreUp (r ∷ rs) = (r.kept.down ≡ None) × AreUp rs
+
+-- They hold the same, whatever became of their disks.
+abbrev pub AreAlike : {D : Type 0} → List (Named D) → List (Named D) → Type 0
+AreAlike old new = EachPair (λ r s. s ≡ record { name = r.name; kept = record r.kept { down = s.kept.down; disk = s.kept.disk; outline = s.kept.outline } }) old new
 
 -- All disks, in their order.
 abbrev pub disks_of : {D : Type 0} → Site D → List D

@@ -119,7 +119,7 @@ pub fn take_line<R: Runner, G: Graph, F: FactBase, D: Disk, E: Envelope, L: Ledg
     taken_line(alloc, name, reply)
 }
 
-/// `restart A`: nothing changes.
+/// `restart A`: its disk is opened again. A journal that is refused stops the run.
 pub fn restart_line<R: Runner, G: Graph, F: FactBase, D: Disk, E: Envelope>(
     alloc: Global,
     replicas: &mut Vec<Named<R, G, F, D>>,
@@ -130,6 +130,8 @@ pub fn restart_line<R: Runner, G: Graph, F: FactBase, D: Disk, E: Envelope>(
     ensures line { Changing (RunsRestart name.now) NoneOf replicas.old.items result replicas.new.items }
     ensures stop { IfErr result (λ why. why ≡ stop.NoMemory) }
 {
-    let reply = restart(alloc, replicas, name, env);
-    restarted_line(alloc, name, reply)
+    match restart(alloc, replicas, name, env) {
+        Err(Refusal::Journal(cause)) => Err(RunStop::Journal(name.copy(alloc)?, cause)),
+        reply => restarted_line(alloc, name, reply),
+    }
 }

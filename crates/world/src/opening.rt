@@ -6,9 +6,11 @@ ghost use Rattle.replica.specs.Kept.{begun};
 ghost use Rattle.world.specs.working.Opening.{Opens, begun_by};
 
 use crate::named::Named;
+use crate::stop::RunStop;
 use base_bytes::{Id, Text};
 use command::Graph;
 use fact_store::FactBase;
+use journal::OpenFault;
 use outside::{Disk, Envelope};
 use policy_meaning::Runner;
 use replica::Replica;
@@ -42,7 +44,16 @@ pub fn put_back<R: Runner, G: Graph, F: FactBase, D: Disk>(
     disks
 }
 
-/// The empty replica of this name. Without memory the disk is handed back.
+/// What stops a run whose disk for the replica of this name isn't opened.
+fn stopped(name: Text, fault: OpenFault) -> RunStop {
+    match fault {
+        OpenFault::DiskFault(_) => RunStop::DiskFault,
+        OpenFault::NoMemory => RunStop::NoMemory,
+        refused => RunStop::Journal(name, refused),
+    }
+}
+
+/// The replica of this name, opened on the disk. A refusal hands the disk back.
 fn open_one<R: Runner, G: Graph, F: FactBase, D: Disk, E: Envelope>(
     alloc: Global,
     runner: R,
@@ -50,17 +61,17 @@ fn open_one<R: Runner, G: Graph, F: FactBase, D: Disk, E: Envelope>(
     digest: &Id,
     disk: D,
     env: &E,
-) -> Result<Named<R, G, F, D>, D>
+) -> Result<Named<R, G, F, D>, (RunStop, D)>
     ensures opens { IfOk result (λ one. one ≡ record { name = name.now; kept = begun (R.rules runner) digest.now (author_id name.now) disk }) }
     ensures refuses { IfErr result (λ back. back ≡ disk) }
 {
     let own = match name.copy(alloc) {
         Ok(own) => own,
-        Err(_) => return Err(disk),
+        Err(_) => return Err((RunStop::NoMemory, disk)),
     };
     match Replica::open_on(alloc, runner, name, digest, disk, env) {
         Ok(replica) => Ok(Named { name: own, replica }),
-        Err((_, _, disk)) => Err(disk),
+        Err((fault, _, disk)) => Err((stopped(own, fault), disk)),
     }
 }
 
@@ -88,7 +99,7 @@ pub fn open_all<R: Runner, G: Graph, F: FactBase, D: Disk, E: Envelope>(
     digest: &Id,
     disks: Vec<D>,
     env: &E,
-) -> Result<(Vec<Named<R, G, F, D>>, Vec<D>), Vec<D>>
+) -> Result<(Vec<Named<R, G, F, D>>, Vec<D>), (RunStop, Vec<D>)>
     requires runners { length runners.items ≡ length names.now }
     requires disks { length names.now ≤ length disks.items }
     ensures replicas { IfOk result (λ both. both.0.items ≡ begun_by (map R.rules runners.items) digest.now names.now disks.items) }
@@ -98,7 +109,7 @@ pub fn open_all<R: Runner, G: Graph, F: FactBase, D: Disk, E: Envelope>(
 {
     let mut replicas = match Vec::with_capacity(alloc, names.len()) {
         Ok(replicas) => replicas,
-        Err(_) => return Err(disks),
+        Err(_) => return Err((RunStop::NoMemory, disks)),
     };
     let mut runners = runners;
     let mut spare = disks;
@@ -107,9 +118,9 @@ pub fn open_all<R: Runner, G: Graph, F: FactBase, D: Disk, E: Envelope>(
         let disk = spare.remove(0);
         match open_one(alloc, runner, name, digest, disk, env) {
             Ok(one) => put_last(&mut replicas, one),
-            Err(disk) => {
+            Err((stop, disk)) => {
                 put_first(&mut spare, disk);
-                return Err(put_back(replicas, spare));
+                return Err((stop, put_back(replicas, spare)));
             }
         }
     }

@@ -2,7 +2,7 @@
 
 ghost use Rattle.std.specs.Prelude.{◌≡◌, Some, MatchResult};
 ghost use Rattle.world.specs.Reasons.{action_refusal, command_refusal, line_refusal, policy_refusal, word_of};
-ghost use Rattle.world.specs.Stops.{IsStopBy};
+ghost use Rattle.world.specs.working.Stopping.{IsStopBy};
 ghost use Rattle.replica.specs.declared.refusal.Refusal.TheVariants as refusal;
 
 use crate::stop::RunStop;

@@ -1,9 +1,12 @@
-ghost use Rattle.std.specs.Prelude.{◌≡◌, ◌≤◌, ◌<◌, ◌+◌, All, IfErr, IfOk, List, OnOk, length, map, true};
+ghost use Rattle.std.specs.Prelude.{◌≡◌, ◌≤◌, ◌<◌, ◌+◌, ℕ, All, Err, IfErr, IfOk, IsTrue, List, OnOk, length, map, true};
+ghost use Rattle.std.specs.List.{AllByRecursion};
+ghost use Rattle.journal.specs.declared.fault.OpenFault.{OpenFault};
 ghost use Rattle.policy_ast.specs.declared.policy.PlacedItem.{PlacedItem};
 ghost use Rattle.script.specs.Scripts.{with_line};
 ghost use Rattle.world.specs.Lines.{Tags, may_run};
-ghost use Rattle.world.specs.Stops.{Acts, HasCause, RunsOrStops, Steps as IsStepOf};
-ghost use Rattle.world.specs.Worlds.{declared, disks_of, opened};
+ghost use Rattle.world.specs.Crashes.{AreSafe, OpenAtEachMoment, OpenWhole, OpensWorld, opened_disks};
+ghost use Rattle.world.specs.Stops.{Acts, HasCause, IsFront, IsSteady, NoneFell, RefusesJournal, RunsOrStops, Steps as IsStepOf};
+ghost use Rattle.world.specs.Worlds.{AreUp, declared, disks_of};
 ghost use Rattle.world.specs.declared.stop.RunStop.TheVariants as stop;
 ghost use Rattle.world.specs.working.Kinds.{Keeping, is_changing, is_making, is_showing};
 
@@ -48,8 +51,9 @@ impl<R: Runner, G: Graph, F: FactBase, D: Disk> Model for World<R, G, F, D> {
 }
 
 impl<R: Runner, G: Graph, F: FactBase, D: Disk> World<R, G, F, D> {
-    /// The empty replicas of these names, each under its runner's policy, whose document has this digest, and on the disk at its place. The disks
-    /// behind those are left as they are. Without memory all disks are handed back in their order.
+    /// The replicas of these names, each under its runner's policy, whose document has this digest, and opened on the disk at its place, in order; no
+    /// messages were made. The disks behind those are left as they are. Where the journal on a disk is refused, a disk fails or memory lacks, all disks are
+    /// handed back in their order, as they then are.
     pub fn open_world<E: Envelope>(
         alloc: Global,
         runners: Vec<R>,
@@ -60,8 +64,12 @@ impl<R: Runner, G: Graph, F: FactBase, D: Disk> World<R, G, F, D> {
     ) -> Result<World<R, G, F, D>, (RunStop, Vec<D>)>
         requires runners { length runners.items ≡ length names.now }
         requires disks { length names.now ≤ length disks.items }
-        ensures opens { (policy : List PlacedItem) → All (λ r. R.rules r ≡ policy) runners.items → IfOk result (λ world. world ≡ opened policy digest.now names.now disks.items) }
-        ensures refuses { IfErr result (λ refused. (refused.0 ≡ stop.NoMemory) × (refused.1.items ≡ disks.items)) }
+        ensures opens { (policy : List PlacedItem) → All (λ r. R.rules r ≡ policy) runners.items → OpensWorld (record { tells = D.tells; content = D.content; honest = D.honest }) E.good policy digest.now names.now disks.items result }
+        ensures up { IfOk result (λ world. AreUp world.replicas) }
+        ensures crash { (policy : List PlacedItem) → All (λ r. R.rules r ≡ policy) runners.items → IsTrue D.tells → AllByRecursion (λ d. IsTrue (D.honest d)) disks.items
+            → OpenWhole (record { tells = D.tells; content = D.content; honest = D.honest }) E.good policy digest.now disks.items (opened_disks result) × IfOk result (λ world. AreSafe (record { tells = D.tells; content = D.content; honest = D.honest }) E.good world.replicas) }
+        ensures disks { NoneFell D.faults disks.items (opened_disks result) }
+        ensures cause { IfErr result (λ refused. HasCause 0 0 D.faults disks.items refused.1.items refused.0) }
     {
         match open_all(alloc, runners, names, digest, disks, env) {
             Ok((replicas, spare)) => Ok(World {
@@ -69,7 +77,7 @@ impl<R: Runner, G: Graph, F: FactBase, D: Disk> World<R, G, F, D> {
                 messages: Vec::new(alloc),
                 spare,
             }),
-            Err(disks) => Err((RunStop::NoMemory, disks)),
+            Err(refused) => Err(refused),
         }
     }
 
@@ -196,7 +204,8 @@ impl<R: Runner, G: Graph, F: FactBase, D: Disk> World<R, G, F, D> {
         Ok(())
     }
 
-    /// Runs a line, and appends its text. Where it stops, nothing is appended, and the replicas are as a front of the line's events left them.
+    /// Runs a line, and appends its text. Where it stops, nothing is appended, and the replicas are as a front of the line's events left them; one whose
+    /// disk failed is down. No earlier line may have stopped.
     pub fn step<E: Envelope, L: Ledger>(
         &mut self,
         alloc: Global,
@@ -206,13 +215,19 @@ impl<R: Runner, G: Graph, F: FactBase, D: Disk> World<R, G, F, D> {
         steps: &mut Steps<L>,
     ) -> Result<(), RunStop>
         requires place { may_run self.old line.now ≡ true }
-        ensures line { IsStepOf (record { good = E.good; told = E.tag_of }) self.old line.now into.old result into.new self.new }
+        requires up { AreUp self.old.replicas }
+        ensures line { IsSteady (record { tells = D.tells; content = D.content; honest = D.honest }) E.good self.old.replicas line.now → IsStepOf (record { good = E.good; told = E.tag_of }) self.old line.now into.old result into.new self.new }
+        ensures crash { AreSafe (record { tells = D.tells; content = D.content; honest = D.honest }) E.good self.old.replicas → AreSafe (record { tells = D.tells; content = D.content; honest = D.honest }) E.good self.new.replicas
+            × OpenAtEachMoment (record { tells = D.tells; content = D.content; honest = D.honest }) E.good (IsFront (record { good = E.good; told = E.tag_of }) self.old line.now) self.old.replicas self.new.replicas }
+        ensures up { OnOk result (AreUp self.new.replicas) }
         ensures later { E.faults env.old ≤ E.faults env.new }
-        ensures cause { IfErr result (HasCause (E.faults env.old) (E.faults env.new)) }
+        ensures disks { NoneFell D.faults (disks_of self.old) (disks_of self.new) }
+        ensures cause { IfErr result (HasCause (E.faults env.old) (E.faults env.new) D.faults (disks_of self.old) (disks_of self.new)) }
         ensures seals { IfErr result (λ why. why ≡ stop.SealFault → Acts line.now) }
-        ensures disks { disks_of self.new ≡ disks_of self.old }
+        ensures journals { (name : List ℕ) (cause : OpenFault) → result ≡ Err (stop.Journal name cause) → RefusesJournal (record { tells = D.tells; content = D.content; honest = D.honest }) E.good self.old.replicas line.now name cause }
         ensures names { map (λ r. r.name) self.new.replicas ≡ map (λ r. r.name) self.old.replicas }
         ensures messages { OnOk result (length self.new.messages ≡ (with_line (declared self.old) line.now).messages) }
+        ensures spare { self.new.spare ≡ self.old.spare }
     {
         self.run_into(alloc, line, env, into, steps)
     }

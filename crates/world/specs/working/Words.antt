@@ -3,7 +3,7 @@ use Rattle.std.specs.Prelude.{◌≡◌, ◌⊎◌, ℕ, Option, Some, None, Res
 use Rattle.replica.specs.declared.refusal.Refusal.{Refusal}
 use Rattle.script_texts.specs.Bytes.{Bytes}
 use Rattle.world.specs.Replies.{IsAnswerLine}
-use Rattle.world.specs.Stops.{IsStopBy}
+use Rattle.world.specs.working.Stopping.{IsStopBy}
 use Rattle.world.specs.declared.said.Said.{Said}
 use Rattle.world.specs.declared.stop.RunStop.{RunStop}
 use Rattle.world.specs.declared.stop.RunStop.TheVariants as stop
