@@ -10,9 +10,9 @@ use Rattle.aranyad.specs.declared.ending.Halt.{Halt}
 use Rattle.aranyad.specs.declared.loading.Loaded.{Loaded}
 use Rattle.aranyad.specs.declared.loading.Loaded.TheVariants as loaded
 
--- A part of a run that reads a file first. A failed read, or want of memory for what is read, ends the run before anything is printed.
-abbrev pub Reads : Option (Option (List ℕ)) → (Option (List ℕ) → Result Ending Halt → List (List ℕ) → Type 0) → Result Ending Halt → List (List ℕ) → Type 0
-Reads file goes result texts = HaltsAtOnce result texts ⊎ ((bytes : Option (List ℕ)) × (file ≡ Some bytes) × goes bytes result texts)
+-- A part of a run that reads a file first. A failed read, or want of memory for what is read, ends the run before anything is printed, and then `same` holds.
+abbrev pub ReadsOr : Type 0 → Option (Option (List ℕ)) → (Option (List ℕ) → Result Ending Halt → List (List ℕ) → Type 0) → Result Ending Halt → List (List ℕ) → Type 0
+ReadsOr same file goes result texts = (HaltsAtOnce result texts × same) ⊎ ((bytes : Option (List ℕ)) × (file ≡ Some bytes) × goes bytes result texts)
 
 -- `check`: the number of items is told, or why there is no policy.
 abbrev pub Checks : Loaded → Result Ending Halt → List (List ℕ) → Type 0
@@ -21,4 +21,4 @@ Checks (loaded.Refused line) = Says ending.PolicyRefused line
 Checks (loaded.Whole digest policy) = Says ending.Done (checked_text (length policy))
 
 abbrev pub ChecksFile : Option (Option (List ℕ)) → Result Ending Halt → List (List ℕ) → Type 0
-ChecksFile file result texts = Reads file (λ bytes r ts. (is : Loaded) × IsLoaded bytes is × Checks is r ts) result texts
+ChecksFile file result texts = ReadsOr (Unit {0}) file (λ bytes r ts. (is : Loaded) × IsLoaded bytes is × Checks is r ts) result texts

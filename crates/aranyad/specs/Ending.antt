@@ -16,10 +16,12 @@ ending_status ending.PolicyRefused = status.PolicyRefused
 ending_status ending.Usage = status.Usage
 ending_status ending.ScriptRefused = status.ScriptRefused
 ending_status ending.TooLarge = status.TooLarge
+ending_status ending.JournalRefused = status.JournalRefused
 
 abbrev pub halt_status : Halt → Status
 halt_status halt.Read = status.ReadFault
 halt_status halt.Write = status.WriteFault
+halt_status halt.Disk = status.DiskFault
 halt_status halt.Seal = status.SealFault
 halt_status halt.Memory = status.NoMemory
 
@@ -36,12 +38,13 @@ pub record Counts : Type 0 where
 abbrev pub counts : ℕ → ℕ → ℕ → Counts
 counts files seals writes = record { files = files; seals = seals; writes = writes }
 
--- No count fell, a halt by a device needs that its count rose, and the words were of a mode.
-pub record HaltsWithCause (old new : Counts) (result : Result Ending Halt) : Type 0 where
+-- No count fell, a halt by a device needs that its count rose, and the words were of a mode. `disks` says that the count of some disk rose.
+pub record HaltsWithCause (disks : Type 0) (old new : Counts) (result : Result Ending Halt) : Type 0 where
   pub later_files : old.files ≤ new.files
   pub later_seals : old.seals ≤ new.seals
   pub later_writes : old.writes ≤ new.writes
   pub read : result ≡ Err halt.Read → Rose old.files new.files
+  pub disk : result ≡ Err halt.Disk → disks
   pub seal : result ≡ Err halt.Seal → Rose old.seals new.seals
   pub write : result ≡ Err halt.Write → Rose old.writes new.writes
   pub no_usage : result ≢ Ok ending.Usage
@@ -51,6 +54,7 @@ pub record ReadHalts {T : Type 0} (name : List ℕ) (old new : ℕ) (last : Opti
   pub later : old ≤ new
   pub failed : result ≡ Err halt.Read → Rose old new × (last ≡ Some name)
   pub no_seal : result ≢ Err halt.Seal
+  pub no_disk : result ≢ Err halt.Disk
   pub no_write : result ≢ Err halt.Write
 
 -- The same of a write.
@@ -58,6 +62,7 @@ pub record WriteHalts {T : Type 0} (old new : ℕ) (result : Result T Halt) : Ty
   pub later : old ≤ new
   pub write : result ≡ Err halt.Write → Rose old new
   pub no_read : result ≢ Err halt.Read
+  pub no_disk : result ≢ Err halt.Disk
   pub no_seal : result ≢ Err halt.Seal
   pub no_memory : result ≢ Err halt.Memory
 
@@ -67,14 +72,16 @@ pub record SaysOrLacks (old new : ℕ) (result : Result Ending Halt) : Type 0 wh
   pub later : old ≤ new
   pub write : result ≡ Err halt.Write → Rose old new
   pub no_read : result ≢ Err halt.Read
+  pub no_disk : result ≢ Err halt.Disk
   pub no_seal : result ≢ Err halt.Seal
 
--- The same of lines that are run: the envelope and the sink alone may halt them.
-pub record LinesHalt (seals_old seals_new writes_old writes_new : ℕ) (result : Result Ending Halt) : Type 0 where
+-- The same of lines that are run: the envelope, the sink and the disks alone may halt them.
+pub record LinesHalt (disks : Type 0) (seals_old seals_new writes_old writes_new : ℕ) (result : Result Ending Halt) : Type 0 where
   pub no_usage : result ≢ Ok ending.Usage
   pub later_seals : seals_old ≤ seals_new
   pub later_writes : writes_old ≤ writes_new
   pub no_read : result ≢ Err halt.Read
+  pub disk : result ≡ Err halt.Disk → disks
   pub seal : result ≡ Err halt.Seal → Rose seals_old seals_new
   pub write : result ≡ Err halt.Write → Rose writes_old writes_new
 
@@ -84,22 +91,22 @@ IsGiven None last = ⊥
 IsGiven (Some (Check policy)) last = last ≡ Some policy
 IsGiven (Some (Run policy script store)) last = (last ≡ Some policy) ⊎ (last ≡ Some script)
 
--- Scripts are run, and so seals asked for.
-abbrev pub MaySeal : Option Mode → Type 0
-MaySeal None = ⊥
-MaySeal (Some (Check policy)) = ⊥
-MaySeal (Some (Run policy script store)) = Unit {0}
+-- Scripts are run, and so seals are asked for and disks used.
+abbrev pub RunsScripts : Option Mode → Type 0
+RunsScripts None = ⊥
+RunsScripts (Some (Check policy)) = ⊥
+RunsScripts (Some (Run policy script store)) = Unit {0}
 
--- What each status needs to have happened, whatever the devices tell.
-abbrev pub HasCause : Option Mode → Counts → Counts → Option (List ℕ) → Status → Type 0
-HasCause mode old new last status.Done = Unit {0}
-HasCause mode old new last status.PolicyRefused = Unit {0}
-HasCause mode old new last status.Usage = mode ≡ None
-HasCause mode old new last status.ScriptRefused = Unit {0}
-HasCause mode old new last status.ReadFault = Rose old.files new.files × IsGiven mode last
-HasCause mode old new last status.WriteFault = Rose old.writes new.writes
-HasCause mode old new last status.DiskFault = ⊥
-HasCause mode old new last status.NoMemory = Unit {0}
-HasCause mode old new last status.TooLarge = Unit {0}
-HasCause mode old new last status.JournalRefused = ⊥
-HasCause mode old new last status.SealFault = Rose old.seals new.seals × MaySeal mode
+-- What each status needs to have happened, whatever the devices tell. `disks` says that the count of some used disk rose.
+abbrev pub HasCause : Option Mode → Counts → Counts → Type 0 → Option (List ℕ) → Status → Type 0
+HasCause mode old new disks last status.Done = Unit {0}
+HasCause mode old new disks last status.PolicyRefused = Unit {0}
+HasCause mode old new disks last status.Usage = mode ≡ None
+HasCause mode old new disks last status.ScriptRefused = Unit {0}
+HasCause mode old new disks last status.ReadFault = Rose old.files new.files × IsGiven mode last
+HasCause mode old new disks last status.WriteFault = Rose old.writes new.writes
+HasCause mode old new disks last status.DiskFault = disks × RunsScripts mode
+HasCause mode old new disks last status.NoMemory = Unit {0}
+HasCause mode old new disks last status.TooLarge = Unit {0}
+HasCause mode old new disks last status.JournalRefused = RunsScripts mode
+HasCause mode old new disks last status.SealFault = Rose old.seals new.seals × RunsScripts mode

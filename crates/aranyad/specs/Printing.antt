@@ -19,6 +19,7 @@ abbrev pub Prints : Result Ending Halt → List (List ℕ) → Option (List ℕ)
 Prints (Ok ending) texts old new = new ≡ append_known old (concat texts)
 Prints (Err halt.Read) texts old new = new ≡ append_known old (concat texts)
 Prints (Err halt.Write) texts old new = BreaksLast texts old new
+Prints (Err halt.Disk) texts old new = new ≡ append_known old (concat texts)
 Prints (Err halt.Seal) texts old new = new ≡ append_known old (concat texts)
 Prints (Err halt.Memory) texts old new = new ≡ append_known old (concat texts)
 
@@ -33,13 +34,15 @@ abbrev pub Says : Ending → List ℕ → Result Ending Halt → List (List ℕ)
 Says ending line (Ok end) texts = (end ≡ ending) × (texts ≡ line ∷ [])
 Says ending line (Err halt.Read) texts = ⊥
 Says ending line (Err halt.Write) texts = texts ≡ line ∷ []
+Says ending line (Err halt.Disk) texts = ⊥
 Says ending line (Err halt.Seal) texts = ⊥
 Says ending line (Err halt.Memory) texts = texts ≡ []
 
--- It ends before anything is printed, by a failed read or for want of memory.
+-- It ends before anything is printed, by a failed read or a failed disk, or since memory ran out.
 abbrev pub HaltsAtOnce : Result Ending Halt → List (List ℕ) → Type 0
 HaltsAtOnce (Ok end) texts = ⊥
 HaltsAtOnce (Err halt.Read) texts = texts ≡ []
 HaltsAtOnce (Err halt.Write) texts = ⊥
+HaltsAtOnce (Err halt.Disk) texts = texts ≡ []
 HaltsAtOnce (Err halt.Seal) texts = ⊥
 HaltsAtOnce (Err halt.Memory) texts = texts ≡ []

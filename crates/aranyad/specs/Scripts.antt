@@ -1,16 +1,24 @@
 -- How the lines of a script are run in a world, one after another.
-use Rattle.std.specs.Prelude.{◌≡◌, ◌⊎◌, ℕ, List, [], ◌∷◌, ◌++◌, Result, Ok, Err}
+use Rattle.std.specs.Prelude.{◌≡◌, ◌⊎◌, ⊥, ℕ, List, [], ◌∷◌, ◌++◌, Some, None, Result, Ok, Err}
 use Rattle.std.specs.List.{flat_map}
+use Rattle.journal.specs.declared.fault.OpenFault.{OpenFault}
+use Rattle.journal.specs.declared.fault.OpenFault.TheVariants as fault
+use Rattle.policy_ast.specs.declared.policy.PlacedItem.{PlacedItem}
+use Rattle.replica.specs.Disks.{Sense}
+use Rattle.replica.specs.Fronts.{OpensAs, Opens, front_of}
+use Rattle.replica.specs.Kept.{Kept, criteria_of}
 use Rattle.script.specs.declared.line.Line.{Line}
 use Rattle.script.specs.declared.line.Line.TheVariants as line
+use Rattle.script_texts.specs.Modes.{damaged_text, journal_policy_text}
+use Rattle.world.specs.Crashes.{AreSafe, IsOpenedOn, OpenAtEachMoment, OpenWhole, RefusesFirst}
 use Rattle.world.specs.Lines.{Runs, Tags}
-use Rattle.world.specs.Stops.{Acts, LeavesFront}
-use Rattle.world.specs.Worlds.{Site}
+use Rattle.world.specs.Stops.{Acts, IsFront, LeavesFront}
+use Rattle.world.specs.Worlds.{AreUp, Named, Site, disks_of, kept_of}
 use Rattle.aranyad.specs.declared.ending.Ending.{Ending}
 use Rattle.aranyad.specs.declared.ending.Ending.TheVariants as ending
 use Rattle.aranyad.specs.declared.ending.Halt.{Halt}
 use Rattle.aranyad.specs.declared.ending.Halt.TheVariants as halt
-use Rattle.aranyad.specs.Printing.{HaltsAtOnce}
+use Rattle.aranyad.specs.Printing.{HaltsAtOnce, Says}
 
 -- The name that a line declares, where it declares one.
 abbrev pub name_of : Line → List (List ℕ)
@@ -40,14 +48,45 @@ module _ {D : Type 0} (tags : Tags) (first : Site D) where
     pub up_to : RanUpTo lines (one ∷ behind) texts mid
     pub front : LeavesFront tags mid one new
 
-  -- The lines of a script are run to the last one; or up to a text that isn't printed whole; or to a line whose seal failed; or as far as there was memory.
+  -- The lines of a script are run to the last one; or up to a text that isn't printed whole; or to a line whose disk or seal failed; or as far as there was
+  -- memory.
   abbrev pub RunsLines : List Line → Result Ending Halt → List (List ℕ) → Site D → Type 0
-  RunsLines lines (Ok end) texts new = (end ≡ ending.Done) × RanUpTo lines [] texts new
+  RunsLines lines (Ok end) texts new = (end ≡ ending.Done) × RanUpTo lines [] texts new × AreUp new.replicas
   RunsLines lines (Err halt.Read) texts new = ⊥
   RunsLines lines (Err halt.Write) texts new = (left : List Line) × RanUpTo lines left texts new
+  RunsLines lines (Err halt.Disk) texts new = (one : Line) × StopsIn lines one texts new
   RunsLines lines (Err halt.Seal) texts new = (one : Line) × Acts one × StopsIn lines one texts new
   RunsLines lines (Err halt.Memory) texts new = (one : Line) × StopsIn lines one texts new
 
--- The same of a world that may not be opened for want of memory.
-abbrev pub RunsOpened : {D : Type 0} → Tags → Site D → List Line → Result Ending Halt → List (List ℕ) → Type 0
-RunsOpened {D = D} tags first lines result texts = HaltsAtOnce result texts ⊎ ((new : Site D) × RunsLines tags first lines result texts new)
+  -- Some front of the events of a script's lines leads to these replicas.
+  abbrev pub IsReached : List Line → List (Named D) → Type 0
+  IsReached lines replicas =
+      (replicas ≡ first.replicas) ⊎ ((one : Line) × (behind : List Line) × (texts : List (List ℕ)) × (mid : Site D) × RanUpTo lines (one ∷ behind) texts mid × IsFront tags mid one replicas)
+
+-- Why a journal is refused, as it is printed.
+abbrev pub journal_text : List ℕ → OpenFault → List ℕ
+journal_text name (fault.Damaged offset) = damaged_text name offset
+journal_text name (fault.OtherPolicy digest) = journal_policy_text name digest
+journal_text name other = []
+
+module _ {D : Type 0} (sense : Sense D) (tags : Tags) where
+  -- What a run leaves of the disks: those of the replicas, as the lines that ran left them, and behind them the others, as they were. A crash leaves of each
+  -- now what opens to what its replica holds, or to that with the commit in which the disk failed; and one at any moment of the lines what opens to what it
+  -- held behind some front of the events. A disk that didn't fail reads what opens to what its replica holds.
+  pub record LeavesDisks (first : Site D) (lines : List Line) (new : Site D) (left : List D) : Type 0 where
+    pub same : left ≡ disks_of new
+    pub spare : new.spare ≡ first.spare
+    pub safe : AreSafe sense tags.good new.replicas
+    pub moments : OpenAtEachMoment sense tags.good (IsReached tags first lines) first.replicas new.replicas
+    pub reads : (a : List ℕ) (kept : Kept D) → kept_of new.replicas a ≡ Some kept → kept.down ≡ None → OpensAs (criteria_of tags.good kept) (sense.content kept.disk).reads (Opens (front_of kept.held))
+
+  module _ (policy : List PlacedItem) (digest : List ℕ) (disks : List D) where
+    -- A world isn't opened, for a failed disk or since memory ran out; or since a journal is refused, which is told; or it is opened on what the disks read, and
+    -- the lines are run in it. What a crash at any moment of the opening leaves is what it might have left before, or opens alike.
+    abbrev pub RunsOpened : List Line → Result Ending Halt → List (List ℕ) → List D → Type 0
+    RunsOpened lines result texts left =
+        (HaltsAtOnce result texts × OpenWhole sense tags.good policy digest disks left)
+        ⊎ ((name : List ℕ) × (cause : OpenFault) × RefusesFirst sense tags.good policy digest (names_of lines) disks name cause × Says ending.JournalRefused (journal_text name cause) result texts
+            × OpenWhole sense tags.good policy digest disks left)
+        ⊎ ((first : Site D) × (new : Site D) × IsOpenedOn sense tags.good policy digest (names_of lines) disks first × OpenWhole sense tags.good policy digest disks (disks_of first)
+            × AreSafe sense tags.good first.replicas × RunsLines tags first lines result texts new × LeavesDisks first lines new left)

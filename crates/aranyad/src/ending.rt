@@ -9,6 +9,7 @@ pub enum Ending {
     Usage,
     ScriptRefused,
     TooLarge,
+    JournalRefused,
 }
 
 impl Ending {
@@ -24,6 +25,7 @@ impl Ending {
             Ending::Usage => Status::Usage,
             Ending::ScriptRefused => Status::ScriptRefused,
             Ending::TooLarge => Status::TooLarge,
+            Ending::JournalRefused => Status::JournalRefused,
         }
     }
 }
@@ -33,6 +35,7 @@ impl Ending {
 pub enum Halt {
     Read,
     Write,
+    Disk,
     Seal,
     Memory,
 }
@@ -47,6 +50,7 @@ impl Halt {
         match self {
             Halt::Read => Status::ReadFault,
             Halt::Write => Status::WriteFault,
+            Halt::Disk => Status::DiskFault,
             Halt::Seal => Status::SealFault,
             Halt::Memory => Status::NoMemory,
         }

@@ -1,7 +1,9 @@
-ghost use Rattle.std.specs.Prelude.{◌≡◌, ◌≢◌, ℕ, None, Some, Ok, Err, IfSome, MatchOption, length};
+ghost use Rattle.std.specs.Prelude.{◌≡◌, ◌≢◌, ⊥, ℕ, None, Some, Ok, Err, IfSome, IsTrue, length};
+ghost use Rattle.std.specs.List.{AllByRecursion};
 ghost use Rattle.script_texts.specs.Modes as modes;
 ghost use Rattle.world.specs.Lines.{Tags};
-ghost use Rattle.aranyad.specs.Ending.{HasCause, HaltsWithCause, IsGiven, MaySeal, counts, status_of};
+ghost use Rattle.world.specs.Stops.{SomeRose};
+ghost use Rattle.aranyad.specs.Ending.{HasCause, HaltsWithCause, IsGiven, RunsScripts, counts, status_of};
 ghost use Rattle.aranyad.specs.Modes.{mode_of};
 ghost use Rattle.aranyad.specs.Printing.{Goes, Says};
 ghost use Rattle.aranyad.specs.Runs.{IsRun, RunsMode, SaysUsage};
@@ -66,9 +68,8 @@ fn run_words<F: Files, D: Disk, E: Envelope, K: Sink>(
     }
 }
 
-/// Runs the program on the words after its name: reads the policy and the script, runs the script's lines in a world of the replicas that they
-/// declare, and writes the text of each line before the next begins. The k-th replica is on the k-th disk. The disks are left as they are until
-/// journals are kept.
+/// Runs the program on the words after its name: reads the policy and the script, opens the replicas that the script declares, the k-th on the k-th disk,
+/// runs the lines, and writes the text of each before the next begins. The disks stand in their order again at the end.
 pub fn run_command<F: Files, D: Disk, E: Envelope, K: Sink>(
     alloc: Global,
     words: &[Text],
@@ -78,13 +79,18 @@ pub fn run_command<F: Files, D: Disk, E: Envelope, K: Sink>(
     out: &mut K,
 ) -> Status
     requires enough { length disks.old.items ≡ 8 }
-    // The status and all that is printed are the model's: to the end, or to where a device failed or memory ran out.
-    ensures run { IfSome (F.holds files.old) (λ at. IsRun (record { good = E.good; told = E.tag_of }) disks.old.items at words.now result (K.written out.old) (K.written out.new)) }
+    // Over honest disks that tell what they hold, the status, all that is printed and what the disks are left as are the model's: to the end, or to where a
+    // device failed or memory ran out.
+    ensures run { IsTrue D.tells → AllByRecursion (λ d. IsTrue (D.honest d)) disks.old.items → IfSome (F.holds files.old) (λ at.
+        IsRun (record { tells = D.tells; content = D.content; honest = D.honest }) (record { good = E.good; told = E.tag_of }) disks.old.items disks.new.items at words.now result (K.written out.old) (K.written out.new)) }
     // Each status has its cause, whatever the devices tell.
-    ensures cause { HasCause (mode_of words.now) (counts (F.faults files.old) (E.faults env.old) (K.faults out.old)) (counts (F.faults files.new) (E.faults env.new) (K.faults out.new)) (F.last files.new) result }
+    ensures cause { HasCause (mode_of words.now) (counts (F.faults files.old) (E.faults env.old) (K.faults out.old)) (counts (F.faults files.new) (E.faults env.new) (K.faults out.new))
+        (SomeRose D.faults disks.old.items disks.new.items) (F.last files.new) result }
     // Words of no mode print the usage line, whatever the files hold.
     ensures usage { mode_of words.now ≡ None → SaysUsage result (K.written out.old) (K.written out.new) }
-    ensures disks { disks.new.items ≡ disks.old.items }
+    ensures disks { length disks.new.items ≡ 8 }
+    // Only a run of scripts uses disks.
+    ensures unused { (RunsScripts (mode_of words.now) → ⊥) → disks.new.items ≡ disks.old.items }
 {
     match run_words(alloc, words, files, disks, env, out) {
         Ok(ending) => ending.status(),

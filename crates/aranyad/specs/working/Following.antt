@@ -18,16 +18,9 @@ pub record FollowIn {D : Type 0} (site : Site D) (lines : List Line) : Type 0 wh
   pub names : map (λ r. r.name) site.replicas ≡ so_far.names ++ names_of lines
   pub messages : so_far.messages ≡ length site.messages
 
--- A stop that no disk caused.
-abbrev pub IsPlain : RunStop → Type 0
-IsPlain stop.DiskFault = ⊥
-IsPlain stop.SealFault = Unit {0}
-IsPlain (stop.Journal name fault) = ⊥
-IsPlain stop.NoMemory = Unit {0}
-
--- What a stop of the world halts a run with. No disk is used yet, and no journal read.
+-- How a run ends whose world stopped so: a journal that is refused is told.
 abbrev pub HaltsBy : RunStop → Halt → Type 0
-HaltsBy stop.DiskFault why = ⊥
+HaltsBy stop.DiskFault why = why ≡ halt.Disk
 HaltsBy stop.SealFault why = why ≡ halt.Seal
 HaltsBy (stop.Journal name fault) why = ⊥
 HaltsBy stop.NoMemory why = why ≡ halt.Memory
