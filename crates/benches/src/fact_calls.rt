@@ -1,16 +1,11 @@
-//! Calls of both fact bases, made often, and the same on a plain ordered map: `bench/facts` takes the time.
-//! `fact_benches facts|layers|map query|copy|change|chain ROWS ROUNDS`; without words each call is made a few times.
-#![tactic(auto)]
-
-mod facts;
-mod map;
-mod sample;
-
+// Calls of both fact bases, made often, and the same on a plain ordered map: `bench/facts` takes the time.
+use crate::calls::usage;
+use crate::{facts, map};
 use base_bytes::NoMemory;
 use fact_layers::LayeredFacts;
 use fact_store::{FactBase, Facts};
 use std::alloc::Global;
-use std::{env, io};
+use std::io;
 
 #[derive(Clone, Copy, Debug)]
 enum Base {
@@ -87,7 +82,8 @@ fn report(rt: &HostRuntime, base: Base, call: Call, rows: u32, rounds: u32) -> i
     println!(rt; "{base:?} {call:?}: {rows} rows, {rounds} rounds, sum {sum}")
 }
 
-fn report_words(
+/// The words of a call of a base of facts, of rows, and of rounds.
+pub fn report_fact_words(
     rt: &HostRuntime,
     base: &str,
     call: &str,
@@ -100,26 +96,16 @@ fn report_words(
     let rounds = rounds.parse::<u32>().ok();
     match (base, call, rows, rounds) {
         (Some(base), Some(call), Some(rows), Some(rounds)) => report(rt, base, call, rows, rounds),
-        _ => println!(rt;
-            "usage: fact_benches facts|layers|map query|copy|change|chain ROWS ROUNDS"
-        ),
+        _ => usage(rt),
     }
 }
 
-fn main(rt: HostRuntime) -> io::Result<()> {
-    let mut words = env::args(&rt)?;
-    let _program = words.next();
-    match (words.next(), words.next(), words.next(), words.next()) {
-        (Some(base), Some(call), Some(rows), Some(rounds)) => {
-            report_words(&rt, &base, &call, &rows, &rounds)
-        }
-        _ => {
-            for base in [Base::Facts, Base::Layers, Base::Map] {
-                for call in [Call::Query, Call::Copy, Call::Change, Call::Chain] {
-                    report(&rt, base, call, 300, 20)?;
-                }
-            }
-            Ok(())
+/// Each call of each base, a few times.
+pub fn report_facts(rt: &HostRuntime) -> io::Result<()> {
+    for base in [Base::Facts, Base::Layers, Base::Map] {
+        for call in [Call::Query, Call::Copy, Call::Change, Call::Chain] {
+            report(rt, base, call, 300, 20)?;
         }
     }
+    Ok(())
 }

@@ -1,4 +1,4 @@
-use turn_tests::turn::Turn;
+use samples::turn::Turn;
 
 /// How many turns a caller made, and the most turns of others between two of them.
 #[derive(Clone, Copy)]

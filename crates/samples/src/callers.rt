@@ -2,7 +2,7 @@ ghost use Rattle.std.specs.Prelude.{◌≡◌, ℕ, true, IfOk, MatchResult};
 ghost use denote.Param.Send.{IsSync};
 ghost use Rattle.turn_lock.specs.Callers.{IsAtRest, numbers};
 ghost use Rattle.turn_lock.specs.Turns.{Adds, Continues};
-ghost use Rattle.turn_tests.specs.Tallies.{is_legal, turn};
+ghost use Rattle.samples.specs.Tallies.{is_legal, turn};
 
 use crate::tally::Tally;
 use std::alloc::Global;

@@ -1,19 +1,15 @@
-//! Callers that take turns at a lock, often: `bench/turns` takes the time.
-//! `turn_benches 1|4 TURNS` makes so many turns with each caller; without words a few are made.
-#![tactic(auto)]
-
+// Callers that take turns at a lock, often: `bench/turns` takes the time.
 ghost use denote.Param.Send.{IsSync};
 
-mod shares;
-
+use crate::calls::usage;
 use crate::shares::share_of;
 use std::alloc::Global;
 use std::sync::Wait;
 use std::thread::Threads;
-use std::{env, io};
+use std::io;
 use turn_lock::{NoMemory, TurnLock};
-use turn_tests::callers::{Work, four, make_turns};
-use turn_tests::tally::Tally;
+use samples::callers::{Work, four, make_turns};
+use samples::tally::Tally;
 
 #[derive(Clone, Copy)]
 enum Callers {
@@ -79,21 +75,18 @@ fn report_shares(rt: &HostRuntime, callers: Callers, tally: &Tally) -> io::Resul
     Ok(())
 }
 
-fn usage(rt: &HostRuntime) -> io::Result<()> {
-    println!(rt; "usage: turn_benches 1|4 TURNS")
+/// The words of how many callers there are, and how many turns each makes.
+pub fn report_turn_words(rt: &HostRuntime, callers: &str, turns: &str) -> io::Result<()> {
+    let (Some(callers), Some(turns)) = (callers_of(callers), turns.parse::<u32>().ok()) else {
+        return usage(rt);
+    };
+    let tally = run(rt, rt.alloc(), callers, turns)?;
+    report(rt, &tally)?;
+    report_shares(rt, callers, &tally)
 }
 
-fn main(rt: HostRuntime) -> io::Result<()> {
-    let mut words = env::args(&rt)?;
-    let _program = words.next();
-    let (Some(callers), Some(turns)) = (words.next(), words.next()) else {
-        report(&rt, &run(&rt, rt.alloc(), Callers::One, 1000)?)?;
-        return report(&rt, &run(&rt, rt.alloc(), Callers::Four, 250)?);
-    };
-    let (Some(callers), Some(turns)) = (callers_of(&callers), turns.parse::<u32>().ok()) else {
-        return usage(&rt);
-    };
-    let tally = run(&rt, rt.alloc(), callers, turns)?;
-    report(&rt, &tally)?;
-    report_shares(&rt, callers, &tally)
+/// A few turns of one caller, and of four.
+pub fn report_turns(rt: &HostRuntime) -> io::Result<()> {
+    report(rt, &run(rt, rt.alloc(), Callers::One, 1000)?)?;
+    report(rt, &run(rt, rt.alloc(), Callers::Four, 250)?)
 }

@@ -1,5 +1,5 @@
 ghost use Rattle.std.specs.Prelude.{◌≡◌, ◌+◌, ◌-◌, ◌^◌, ◌<◌, ◌++◌, [], ◌∷◌, true, MatchResult};
-ghost use Rattle.turn_tests.specs.Tallies.{counted, is_legal, plus, turn};
+ghost use Rattle.samples.specs.Tallies.{counted, is_legal, plus, turn};
 
 use crate::turn::Turn;
 use std::alloc::Global;
@@ -18,7 +18,7 @@ pub struct Tally {
 
 impl Kept for Tally {
     ghost use Rattle.std.specs.Prelude.{◌≡◌, true};
-    ghost use Rattle.turn_tests.specs.Tallies.{is_legal};
+    ghost use Rattle.samples.specs.Tallies.{is_legal};
 
     type Turn = Turn;
 

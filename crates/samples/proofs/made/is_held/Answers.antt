@@ -1,6 +1,6 @@
 use Rattle.std.proofs.Common.{◌≡◌, ℕ, true, Option, None, Some, is_some, refl, ap, sym, ◌∙◌}
 use Rattle.command.proofs.PlaceFacts.{held_place, place_held}
-use Rattle.graph_tests.proofs.made.is_held.Goals as goal
+use Rattle.samples.proofs.made.is_held.Goals as goal
 
 some_there : (o : Option ℕ) → is_some o ≡ true → (p : ℕ) × (o ≡ Some p)
 some_there None h = absurd cc

@@ -1,8 +1,8 @@
 -- One turn more.
 use Rattle.std.proofs.Common.{◌≡◌, ℕ, Bool, ◌&&◌, true, false, eqb, eq-eqb, List, [], ◌∷◌, ◌++◌, refl, ap, ◌∙◌}
 use Rattle.std.proofs.lemmas.Bool.{false≢true}
-use Rattle.turn_tests.specs.declared.turn.Turn.{Turn}
-use Rattle.turn_tests.specs.Tallies.{counted, is_legal, plus}
+use Rattle.samples.specs.declared.turn.Turn.{Turn}
+use Rattle.samples.specs.Tallies.{counted, is_legal, plus}
 
 and_parts : (a b : Bool) → (a && b) ≡ true → (a ≡ true) × (b ≡ true)
 and_parts true b e = (refl, e)

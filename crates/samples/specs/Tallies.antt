@@ -1,6 +1,6 @@
 -- A counter, and the turns on it.
 use Rattle.std.specs.Prelude.{ℕ, ◌+◌, ◌%◌, ◌^◌, ◌==◌, ◌&&◌, Bool, true, List, [], ◌∷◌}
-use Rattle.turn_tests.specs.declared.turn.Turn.{Turn}
+use Rattle.samples.specs.declared.turn.Turn.{Turn}
 
 -- the counter after an amount
 abbrev pub plus : ℕ → ℕ → ℕ
