@@ -1,5 +1,5 @@
 -- The heads once a command is added: those before but for its parents, and its own place.
-use Rattle.std.proofs.Common.{◌≡◌, ℕ, ◌+◌, ◌≤◌, Bool, true, false, IsTrue, ◌||◌, cond, not, List, [], ◌∷◌, ◌++◌, filter, length, slice_get, Option, Some, None, option_map, refl, sym, ap, subst, ◌∙◌, append_assoc, arith, length-append}
+use Rattle.std.proofs.Common.{◌≡◌, ℕ, ◌+◌, ◌≤◌, Bool, true, false, IsTrue, ◌||◌, cond, not, if◌then◌else◌, List, [], ◌∷◌, ◌++◌, filter, length, slice_get, Option, Some, None, option_map, refl, sym, ap, subst, ◌∙◌, append_assoc, arith, length-append}
 use Rattle.std.specs.List.{Contains, list_any}
 use Rattle.std.specs.Str.{bytes_eq}
 use Rattle.std.proofs.lemmas.List.Elements.{filter-append}
@@ -73,11 +73,13 @@ module _ (cs : List Command) (c : Command) where
       own is =
           let found = any_found (bytes_eq (command_id c)) (parents_of c) (subst IsTrue (sym is) refl) in
           fresh (subst (λ i. IsHeld cs i) (sym (same_bytes (command_id c) found.0 found.2)) (held found.0 found.1))
+
       older : is_parent cs (command_id c) ≡ true → ⊥
       older is =
           let found = any_found (λ y. list_any (bytes_eq (command_id c)) (parents_of y)) cs (subst IsTrue (sym is) refl) in
           let id = any_found (bytes_eq (command_id c)) (parents_of found.0) found.2 in
           fresh (subst (λ i. IsHeld cs i) (sym (same_bytes (command_id c) id.0 id.2)) (parents_held cs closed found.0 id.0 found.1 id.1))
+
       by : (a : Bool) → is_parent cs (command_id c) ≡ a → (b : Bool) → list_any (bytes_eq (command_id c)) (parents_of c) ≡ b → (a || b) ≡ false
       by true is b there = absurd (older is)
       by false is true there = absurd (own there)
