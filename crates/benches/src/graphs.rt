@@ -1,8 +1,8 @@
 use base_bytes::NoMemory;
 use command::Graph;
 use graph_set::ListGraph;
-use graph_tests::made::{Step, braided, made};
-use graph_tests::writers::by_writers;
+use samples::made::{Step, braided, made};
+use samples::writers::by_writers;
 use std::alloc::Global;
 
 /// What is asked of a graph.

@@ -6,7 +6,7 @@ use crate::player::DIGEST;
 use base_bytes::{Bytes, Id, NoMemory};
 use command::{Command, Graph, from_bytes};
 use graph_set::ListGraph;
-use graph_tests::made::{append, id_at};
+use samples::made::{append, id_at};
 use outside::{Envelope, TagEnvelope};
 use std::alloc::Global;
 

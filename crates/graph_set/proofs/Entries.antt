@@ -24,6 +24,10 @@ pub id_there : (es : Entries) (place : ℕ) (id : List ℕ) (c : Command) → id
 id_there es place id c named is =
     sym (slice_get-map command_id (commands es) place) ∙ ap (λ ks. slice_get ks place) (sym named) ∙ slice_get-map (λ (e : List ℕ × Command). e.0) es place ∙ sym (ap (option_map (λ (e : List ℕ × Command). e.0)) is)
 
+-- where no entry stands there is no command
+pub none_there : (es : Entries) (place : ℕ) → slice_get es place ≡ None → slice_get (commands es) place ≡ None
+none_there es place is = slice_get-map (λ (e : List ℕ × Command). e.1) es place ∙ ap (option_map (λ (e : List ℕ × Command). e.1)) is
+
 prefix_len-map : {A B : Type 0} (p : B → Bool) (f : A → B) (xs : List A) → prefix_len p (map f xs) ≡ prefix_len (λ x. p (f x)) xs
 prefix_len-map p f [] = refl
 prefix_len-map p f (x ∷ xs) = ap (λ n. cond (p (f x)) (1 + n) 0) (prefix_len-map p f xs)

@@ -1,5 +1,4 @@
 -- Lemmas that the proofs of this crate share.
 pub mod Entries
-pub mod HeadFacts
+mod KeptHeads
 pub mod WalkFacts
-mod AddedIds

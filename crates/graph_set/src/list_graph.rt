@@ -1,23 +1,27 @@
-ghost use Rattle.std.specs.Prelude.{◌≡◌, ◌≤◌, ◌<◌, ◌+◌, [], ◌∷◌, ◌++◌, IsOk, IfOk, OnOk, map};
+ghost use Rattle.std.specs.Prelude.{◌≡◌, ◌≤◌, ◌<◌, ◌+◌, [], ◌∷◌, ◌++◌, IsOk, IfOk, OnOk, length, map, vec_capacity};
+ghost use Rattle.command.specs.Ancestors.{heads};
 ghost use Rattle.command.specs.Closed.{IsHeld};
 ghost use Rattle.command.specs.Wire.{IsFormed, IsInForm, command_id};
 ghost use Rattle.graph_set.specs.working.Held.{IsGraph, graph_prop};
 ghost use Rattle.indexmap.specs.IndexMap.{keys, spare, values};
 
-use crate::parents::{add_head, add_parents};
+use crate::heads::{copied, keep_others, put_place};
 use crate::walk::Walk;
 use base_bytes::{Id, NoMemory};
 use command::{Command, Graph, Places, id_of};
-use indexmap::{IndexMap, IndexSet};
+use indexmap::IndexMap;
 use std::alloc::Global;
 
-/// A graph as the list of its commands, each under its id.
+/// A graph as the list of its commands, each under its id, and the places of its heads.
 #[derive(Drop)]
 pub struct ListGraph {
     commands: IndexMap<Id, Command>,
+    tips: Vec<usize>,
     room: usize,
     ghost graph: { IsGraph (keys commands) (values commands) } by { graph_prop (keys commands) (values commands) },
     ghost roomy: { room ≤ spare commands },
+    ghost heads: { tips.items ≡ heads (values commands) },
+    ghost places: { length tips.items + room ≤ vec_capacity tips },
 }
 
 /// Puts a command behind the others, under its id, which none of them has.
@@ -38,34 +42,10 @@ fn put(commands: &mut IndexMap<Id, Command>, command: Command) -> Result<(), NoM
 
 impl ListGraph {
     ghost use Rattle.std.specs.Prelude.{ℕ, ◌<◌, Bool, List, Some, length};
-    ghost use Rattle.std.specs.List.{Contains, list_any};
-    ghost use Rattle.std.specs.Str.{bytes_eq};
-    ghost use Rattle.command.specs.Ancestors.{is_parent, places_without};
+    ghost use Rattle.std.specs.List.{Contains};
     ghost use Rattle.command.specs.Closed.{place_of};
     ghost use Rattle.command.specs.Kinds.{parents_of};
     ghost use Rattle.graph_set.specs.working.Walks.{IsNumbered, MarksWhere};
-
-    /// The ids of all parents.
-    fn parents(&self, alloc: Global) -> Result<IndexSet<Id>, NoMemory>
-        ensures { IfOk result (λ ids. (id : List ℕ) → list_any (bytes_eq id) ids.keys ≡ is_parent (values self.now.commands) id) }
-    {
-        let mut parents = IndexSet::new(alloc);
-        for place in 0..self.len() {
-            add_parents(&mut parents, self.at(place))?;
-        }
-        Ok(parents)
-    }
-
-    /// The places of the commands whose ids aren't among these.
-    fn places_without(&self, alloc: Global, ids: &IndexSet<Id>) -> Result<Places, NoMemory>
-        ensures { IfOk result (λ places. places ≡ places_without (λ id. list_any (bytes_eq id) ids.now.keys) 0 (values self.now.commands)) }
-    {
-        let mut places = Places::new(alloc);
-        for place in 0..self.len() {
-            add_head(alloc, &mut places, ids, &self.id_at(place), place)?;
-        }
-        Ok(places)
-    }
 
     /// Finds the command with this id, unless it is older than the oldest of the walk.
     fn find(&self, walk: &mut Walk, older: usize, id: &Id) -> Result<(), NoMemory>
@@ -113,6 +93,7 @@ impl Graph for ListGraph {
     fn empty(alloc: Global) -> Result<ListGraph, NoMemory> {
         Ok(ListGraph {
             commands: IndexMap::new(alloc),
+            tips: Vec::new(alloc),
             room: 0,
         })
     }
@@ -151,8 +132,7 @@ impl Graph for ListGraph {
     }
 
     fn heads(&self, alloc: Global) -> Result<Places, NoMemory> {
-        let parents = self.parents(alloc)?;
-        self.places_without(alloc, &parents)
+        Places::from_slice(alloc, self.tips.as_slice())
     }
 
     fn spare(&self) -> usize {
@@ -162,6 +142,7 @@ impl Graph for ListGraph {
     fn reserve(&mut self, _alloc: Global, more: usize) -> Result<(), NoMemory> {
         if self.room < more {
             self.commands.reserve(more)?;
+            self.tips.reserve(more)?;
             self.room = more;
         }
         Ok(())
@@ -169,6 +150,9 @@ impl Graph for ListGraph {
 
     fn append(&mut self, command: Command) -> usize {
         let place = self.commands.len();
+        let ids = command.parents();
+        keep_others(&mut self.tips, &self.commands, ids.as_slice());
+        put_place(&mut self.tips, place);
         match put(&mut self.commands, command) {
             Ok(()) => {}
             Err(NoMemory) => unreachable!(),
@@ -183,6 +167,11 @@ impl Graph for ListGraph {
             let command = self.at(place).copy(alloc)?;
             put(&mut commands, command)?;
         }
-        Ok(ListGraph { commands, room: 0 })
+        let tips = copied(alloc, self.tips.as_slice())?;
+        Ok(ListGraph {
+            commands,
+            tips,
+            room: 0,
+        })
     }
 }

@@ -1,4 +1,4 @@
-use crate::made::{Step, append, command, id_at, made};
+use samples::made::{Step, append, command, id_at, made};
 use base_bytes::{Id, NoMemory};
 use command::Graph;
 use graph_set::ListGraph;

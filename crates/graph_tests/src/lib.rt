@@ -3,7 +3,6 @@
 
 #[cfg(test)]
 mod calls;
-pub mod made;
 #[cfg(test)]
 mod opinions;
 #[cfg(test)]
@@ -14,4 +13,3 @@ mod plain;
 mod rows;
 #[cfg(test)]
 mod tables;
-pub mod writers;

@@ -1,6 +1,6 @@
-use crate::made::{braided, made};
+use samples::made::{braided, made};
 use crate::plain::plain_braid;
-use crate::writers::by_writers;
+use samples::writers::by_writers;
 use base_bytes::NoMemory;
 use command::Graph;
 use graph_set::ListGraph;

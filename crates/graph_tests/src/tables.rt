@@ -1,4 +1,4 @@
-use crate::made::{braided, id_at, made};
+use samples::made::{braided, id_at, made};
 use crate::pairs::{PAIRS, Pair};
 use crate::rows::{ROWS, Row};
 use base_bytes::{Id, NoMemory};

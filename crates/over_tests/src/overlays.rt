@@ -2,7 +2,7 @@ use base_bytes::{Id, NoMemory};
 use command::Graph;
 use graph_over::Over;
 use graph_set::ListGraph;
-use graph_tests::made::{Step, append, command, made};
+use samples::made::{Step, append, command, made};
 use std::alloc::Global;
 use std::process::Abort;
 use std::test::*;

@@ -8,7 +8,7 @@ use braid_run::{Entry, Outcome, Ran, run_all};
 use command::Graph;
 use fact_store::{FactBase, Facts, Wanted};
 use graph_set::ListGraph;
-use graph_tests::made::{Step, id_at, made};
+use samples::made::{Step, id_at, made};
 use sqlite_items::Items;
 use std::alloc::Global;
 use std::marker::Brand;

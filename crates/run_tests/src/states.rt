@@ -4,7 +4,7 @@ use base_bytes::{Id, NoMemory};
 use braid_run::{Entries, Entry, Outcome, Ran, State};
 use command::{Graph, id_of};
 use fact_store::{FactBase, Facts};
-use graph_tests::made::{Step, command};
+use samples::made::{Step, command};
 use policy_meaning::Effects;
 use std::alloc::Global;
 use std::test::*;

@@ -1,6 +1,6 @@
-use crate::callers::{Work, add, add_by_another, four, pause};
-use crate::tally::Tally;
-use crate::turn::Turn;
+use samples::callers::{Work, add, add_by_another, four, pause};
+use samples::tally::Tally;
+use samples::turn::Turn;
 use std::process::Abort;
 use std::sync::Wait;
 use std::test::*;

@@ -1,7 +1,5 @@
 -- What a map from ids to commands holds, where it is a graph.
-use Rattle.std.specs.Prelude.{◌≡◌, ℕ, ◌≤◌, ◌||◌, List, length, map}
-use Rattle.std.specs.List.{list_any}
-use Rattle.std.specs.Str.{bytes_eq}
+use Rattle.std.specs.Prelude.{◌≡◌, ℕ, ◌≤◌, List, length, map}
 use Rattle.std.proofs.Props.{props}
 use Rattle.command.specs.declared.command.Command.{Command}
 use Rattle.command.specs.Closed.{IsClosed, max_commands}
@@ -16,11 +14,3 @@ pub record IsGraph (ids : List (List ℕ)) (commands : List Command) : Type 0 wh
 
 pub graph_prop : (ids : List (List ℕ)) (commands : List Command) → IsProp (IsGraph ids commands)
 graph_prop ids commands = hlevel (props, closed_prop commands)
-
--- the ids with one more, if it wasn't there
-abbrev pub IsAdded : List (List ℕ) → List ℕ → List (List ℕ) → Type 0
-IsAdded ids one next = (id : List ℕ) → list_any (bytes_eq id) next ≡ (list_any (bytes_eq id) ids || bytes_eq id one)
-
--- the ids with others more
-abbrev pub AreAdded : List (List ℕ) → List (List ℕ) → List (List ℕ) → Type 0
-AreAdded ids others next = (id : List ℕ) → list_any (bytes_eq id) next ≡ (list_any (bytes_eq id) ids || list_any (bytes_eq id) others)
