@@ -7,3 +7,4 @@ pub mod JoinLists
 pub mod JoinFacts
 pub mod JoinWhole
 pub mod ExchangeFacts
+pub mod Opens
