@@ -8,3 +8,4 @@ pub mod JoinFacts
 pub mod JoinWhole
 pub mod ExchangeFacts
 pub mod Opens
+pub mod OpenFacts
