@@ -6,8 +6,10 @@ use Rattle.accept.specs.Admission.{IsAdmission}
 use Rattle.accept.specs.Takes.{IsTake, IsTakenOn, Tally, counted, no_tally}
 use Rattle.accept.specs.declared.answer.Admit.{Admit}
 use Rattle.accept.specs.declared.answer.Admit.TheVariants.{Added, Repeat, Refused}
-use Rattle.braid_run.specs.Soundness.{AreSound, Criteria, HasGoodTag, IsLawful}
-use Rattle.braid_run.specs.States.{HasOneInit, IsStanding, MayFollow}
+use Rattle.braid_run.specs.RunOf.{IsRunOf}
+use Rattle.braid_run.specs.Soundness.{AreSound, Criteria, HasGoodTag, IsSound}
+use Rattle.braid_run.specs.States.{HasOneInit, Held, IsStanding, extended}
+use Rattle.braid_run.specs.declared.entry.Entry.{Entry}
 use Rattle.command.specs.Each.{EachAfter}
 use Rattle.command.specs.Wire.{IsFormed, command_id}
 use Rattle.command.specs.declared.command.Command.{Command}
@@ -16,9 +18,11 @@ use Rattle.command.proofs.ListFacts.{each_join, each_right, none_element}
 use Rattle.journal.specs.Commits.{IsCommitForm}
 use Rattle.journal.specs.declared.commit.Commit.{Commit}
 use Rattle.journal.specs.declared.commit.Commit.TheVariants.{Graph, Commands}
-use Rattle.replica.specs.Fronts.{Admits, AreAdmitted, Front, Opening, Opens, all_added, behind_commit, no_front}
-use Rattle.replica.specs.Kept.{any_tag}
-use Rattle.replica.specs.working.Openings.{Adds, AddsOrNot, Goes, GoesOrNot, is_added}
+use Rattle.policy_meaning.specs.Typed.{AreTyped}
+use Rattle.replica.specs.Fronts.{Admits, AreAdmitted, Front, Opening, Opens, all_added, behind_commit, front_of, no_front}
+use Rattle.replica.specs.Kept.{any_tag, nothing_held}
+use Rattle.replica.specs.working.Changes.{Change, Reruns}
+use Rattle.replica.specs.working.Openings.{Adds, AddsOrNot, Goes, GoesOrNot, IsLedTo, is_added}
 use Rattle.replica.proofs.Opens.{HaveOneAnswer}
 use Rattle.transaction.specs.Applying.{graph_named}
 
@@ -205,3 +209,34 @@ sound_for_any criteria graph_id cs sound = record {
     any_good (command.Basic priority parent author name payload tag) = refl
     any_good (command.Finalize parent author name payload tag) = refl
     any_good (command.Merge left right) = tt
+
+-- ---- the state that commits lead to
+
+pub led_to : KeepSound → (criteria : Criteria) (items : List (ℕ × Commit)) (below_none added_none below added : List Command) (id : Option (List ℕ)) (olds : List Entry) (change : Change) (cut count : ℕ) (held : Held) →
+    AllByRecursion (λ item. IsCommitForm item.1) items → below_none ≡ [] → added_none ≡ [] → below ≡ below_none →
+    Admits criteria (record { graph_id = None; commands = below_none ++ added_none }) items (Opens (record { graph_id = id; commands = below ++ added })) →
+    Reruns criteria.policy below added olds change cut count → held ≡ extended (record nothing_held { graph_id = id }) change.commands 0 change.rows change.entries → IsLedTo criteria items held
+led_to keeps criteria items below_none added_none below added id olds change cut count held forms no_below no_added same_below admits reruns same_held =
+    record { opens = opens; sound = sound; replica = record { typed = subst (λ (h : Held). AreTyped criteria.policy h.rows) (sym same_held) reruns.typed; sound = any } }
+  where
+    start : record { graph_id = None; commands = below_none ++ added_none } ≡ no_front
+    start = ap (λ l. record { graph_id = None; commands = l ++ added_none }) no_below ∙ ap (λ l. record { graph_id = None; commands = l }) no_added
+
+    whole : below ++ added ≡ change.commands
+    whole = ap (λ l. l ++ added) (same_below ∙ no_below) ∙ sym reruns.same_added
+
+    end : record { graph_id = id; commands = below ++ added } ≡ front_of held
+    end = ap (λ l. record { graph_id = id; commands = l }) whole ∙ sym (ap front_of same_held)
+
+    opens : Admits criteria no_front items (Opens (front_of held))
+    opens = subst (λ f. Admits criteria no_front items (Opens f)) end (subst (λ f. Admits criteria f items (Opens (record { graph_id = id; commands = below ++ added }))) start admits)
+
+    run : IsRunOf criteria.policy held.commands held.rows held.entries
+    run =
+        subst (λ (h : Held). IsRunOf criteria.policy h.commands h.rows h.entries) (sym same_held) (subst (λ l. IsRunOf criteria.policy l change.rows change.entries) whole reruns.run)
+
+    sound : IsSound criteria held
+    sound = record { commands = opened_sound keeps criteria items no_front (front_of held) forms (nothing_sound criteria) opens; run = run }
+
+    any : IsSound (record { policy = criteria.policy; digest = criteria.digest; good = any_tag }) held
+    any = record { commands = sound_for_any criteria held.graph_id held.commands sound.commands; run = run }

@@ -1,15 +1,13 @@
 //! What the commits of a journal lead to: their commands, admitted one after another.
 
-ghost use Rattle.std.specs.Prelude.{◌≡◌, ◌⊎◌, ◌++◌, ◌∷◌, [], ℕ, None, Err, IfErr, IfOk, IsTrue, OnOk, true, false};
+ghost use Rattle.std.specs.Prelude.{◌≡◌, ◌<◌, ◌++◌, ◌∷◌, [], IfErr, IfOk, OnOk};
 ghost use Rattle.std.specs.List.{All, AllByRecursion};
-ghost use Rattle.braid_run.specs.Soundness.{IsSound};
 ghost use Rattle.braid_run.specs.States.{IsStanding};
 ghost use Rattle.command.specs.Wire.{IsFormed};
 ghost use Rattle.journal.specs.Commits.{IsCommitForm};
-ghost use Rattle.journal.specs.declared.fault.OpenFault.TheVariants as fault;
-ghost use Rattle.replica.specs.Fronts.{Admits, AreAdmitted, IsDamaged, Opens, behind_commit, front_of, no_front};
-ghost use Rattle.replica.specs.Kept.{IsReplica};
-ghost use Rattle.replica.specs.working.Openings.{AddsOrNot, GoesOrNot, is_added};
+ghost use Rattle.replica.specs.Fronts.{Admits, Opens};
+ghost use Rattle.replica.specs.Kept.{nothing_held};
+ghost use Rattle.replica.specs.working.Openings.{AddsOrNot, GoesOrNot, IsLedTo, IsRefusedAt, IsRefusedBehind, is_added};
 ghost use Rattle.transaction.specs.Applying.{graph_named};
 
 use crate::taking::{add, adopt, rerun};
@@ -166,9 +164,8 @@ fn admit_commits<R: Runner, G: Graph, F: FactBase, E: Envelope, L: Ledger>(
         (record { graph_id = graph_id.old; commands = G.commands over.old.base.now ++ over.old.added.items }) commits.now
         (Opens (record { graph_id = graph_id.new; commands = G.commands over.new.base.now ++ over.new.added.items }))) }
     ensures standing { OnOk result (IsStanding graph_id.new (G.commands over.new.base.now ++ over.new.added.items)) }
-    ensures refuses { IfErr result (λ why. (why ≡ fault.NoMemory) ⊎ ((offset : ℕ) × (why ≡ fault.Damaged offset)
-        × Admits (record { policy = R.rules runner.now; digest = digest.now; good = E.good })
-            (record { graph_id = graph_id.old; commands = G.commands over.old.base.now ++ over.old.added.items }) commits.now (IsDamaged offset))) }
+    ensures refused { IfErr result (IsRefusedBehind (record { policy = R.rules runner.now; digest = digest.now; good = E.good })
+        (record { graph_id = graph_id.old; commands = G.commands over.old.base.now ++ over.old.added.items }) commits.now) }
 {
     for item in commits {
         if !admit_commit::<R, G, F, E, L>(
@@ -180,27 +177,38 @@ fn admit_commits<R: Runner, G: Graph, F: FactBase, E: Envelope, L: Ledger>(
     Ok(())
 }
 
-/// The state that commits lead to, each with the place of its gate. The first that isn't admitted whole is damaged.
-pub fn opened_state<R: Runner, G: Graph, F: FactBase, E: Envelope>(
+/// Names the graph of an empty state, where it has a name.
+fn name_known<G: Graph, F: FactBase>(state: &mut State<G, F>, graph_id: Option<Id>)
+    requires nothing { state.old.held ≡ nothing_held }
+    ensures named { state.new.held ≡ record nothing_held { graph_id = graph_id } }
+{
+    if let Some(id) = graph_id {
+        state.name_graph(id);
+    }
+}
+
+/// The state that commits lead to, over a counter of the caller's.
+fn led_state<R: Runner, G: Graph, F: FactBase, E: Envelope, L: Ledger>(
     alloc: Global,
     runner: &R,
     digest: &Id,
     commits: &[(u64, Commit)],
     env: &E,
+    blank: Blank,
 ) -> Result<State<G, F>, OpenFault>
     requires forms { AllByRecursion (λ item. IsCommitForm item.1) commits.now }
-    ensures opens { IfOk result (λ state. Admits (record { policy = R.rules runner.now; digest = digest.now; good = E.good }) no_front commits.now (Opens (front_of state.held))) }
-    ensures damaged { (offset : ℕ) → result ≡ Err (fault.Damaged offset) → Admits (record { policy = R.rules runner.now; digest = digest.now; good = E.good }) no_front commits.now (IsDamaged offset) }
-    ensures fault { IfErr result (λ why. (why ≡ fault.NoMemory) ⊎ ((offset : ℕ) × (why ≡ fault.Damaged offset))) }
-    ensures replica { IfOk result (λ state. IsReplica (R.rules runner.now) digest.now state.held) }
-    ensures sound { IfOk result (λ state. IsSound (record { policy = R.rules runner.now; digest = digest.now; good = E.good }) state.held) }
+    requires name { blank.name ≡ L.name }
+    requires parts { blank.parts ≡ L.parts }
+    requires some { 0 < L.parts }
+    ensures led { IfOk result (λ state. IsLedTo (record { policy = R.rules runner.now; digest = digest.now; good = E.good }) commits.now state.held) }
+    ensures refused { IfErr result (IsRefusedAt (record { policy = R.rules runner.now; digest = digest.now; good = E.good }) commits.now) }
 {
     takes_keep_soundness();
     let mut state = State::<G, F>::empty(alloc)?;
     let mut graph_id = None;
     let mut over = Over::on(alloc, state.graph());
-    let mut steps = Steps::<Brand>::start(Blank::new(1));
-    admit_commits::<R, G, F, E, Brand>(
+    let mut steps = Steps::<L>::start(blank);
+    admit_commits::<R, G, F, E, L>(
         alloc,
         runner,
         digest,
@@ -210,10 +218,23 @@ pub fn opened_state<R: Runner, G: Graph, F: FactBase, E: Envelope>(
         env,
         &mut steps,
     )?;
-    let rerun = rerun::<R, G, F, Brand>(alloc, runner, &[], over, &mut steps)?;
-    if let Some(id) = graph_id {
-        state.name_graph(id);
-    }
+    let rerun = rerun::<R, G, F, L>(alloc, runner, &[], over, &mut steps)?;
+    name_known(&mut state, graph_id);
     adopt(alloc, &mut state, Some(rerun.change))?;
     Ok(state)
+}
+
+/// The state that commits lead to, each with the place of its gate. The first that isn't admitted whole is damaged.
+pub fn opened_state<R: Runner, G: Graph, F: FactBase, E: Envelope>(
+    alloc: Global,
+    runner: &R,
+    digest: &Id,
+    commits: &[(u64, Commit)],
+    env: &E,
+) -> Result<State<G, F>, OpenFault>
+    requires forms { AllByRecursion (λ item. IsCommitForm item.1) commits.now }
+    ensures led { IfOk result (λ state. IsLedTo (record { policy = R.rules runner.now; digest = digest.now; good = E.good }) commits.now state.held) }
+    ensures refused { IfErr result (IsRefusedAt (record { policy = R.rules runner.now; digest = digest.now; good = E.good }) commits.now) }
+{
+    led_state::<R, G, F, E, Brand>(alloc, runner, digest, commits, env, Blank::new(1))
 }
