@@ -7,3 +7,6 @@ pub mod JoinLists
 pub mod JoinFacts
 pub mod JoinWhole
 pub mod ExchangeFacts
+pub mod CommitFacts
+pub mod CallFacts
+pub mod NamedFacts

@@ -2,3 +2,4 @@
 pub mod Changes
 pub mod Backing
 pub mod Readings
+pub mod Commits
