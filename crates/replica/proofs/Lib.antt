@@ -10,3 +10,4 @@ pub mod ExchangeFacts
 pub mod CommitFacts
 pub mod CallFacts
 pub mod NamedFacts
+pub mod Opens
