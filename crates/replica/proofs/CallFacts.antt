@@ -104,26 +104,30 @@ module _ {D : Type 0} (sense : Sense D) (faults : D → ℕ) (last_step : D → 
         by : (r : Result T Refusal) → ((x : T) → r ≡ Ok x → x ≡ gave.reply) → EndsCommitting gave.target old r new → IsStep kept_old gives refuses r kept_new
         by (Ok x) replies ends = (
           up,
-          gave.target,
-          subst (λ y. gives y gave.target) (sym (replies x refl)) gave.given,
-          record { same = ap (λ h. record kept_new { held = h }) ends.0 ∙ ap (λ d. record kept_new { held = gave.target; down = d }) ends.1 },
+          (
+            gave.target,
+            subst (λ y. gives y gave.target) (sym (replies x refl)) gave.given,
+            record { same = ap (λ h. record kept_new { held = h }) ends.0 ∙ ap (λ d. record kept_new { held = gave.target; down = d }) ends.1 },
+          ),
         )
         by (Err why) replies (inl lacks) = inl (up, inl lacks.0, ap (kept_of policy digest author) lacks.1)
         by (Err why) replies (inr (step, commit, is, leads, same, falls, outlined)) = inr (inl (
           up,
-          step,
-          is,
-          record {
-            reply = gave.reply;
-            held = gave.target;
-            given = gave.given;
-            commit = commit;
-            leads = leads;
-            same =
-                ap (λ h. record kept_new { held = h }) same
-                ∙ ap (λ d. record kept_new { held = old.held; down = d }) falls
-                ∙ ap (λ o. record kept_new { held = old.held; down = Some (record { step = step; loose = Some commit }); outline = o }) outlined;
-          },
+          (
+            step,
+            is,
+            record {
+              reply = gave.reply;
+              held = gave.target;
+              given = gave.given;
+              commit = commit;
+              leads = leads;
+              same =
+                  ap (λ h. record kept_new { held = h }) same
+                  ∙ ap (λ d. record kept_new { held = old.held; down = d }) falls
+                  ∙ ap (λ o. record kept_new { held = old.held; down = Some (record { step = step; loose = Some commit }); outline = o }) outlined;
+            },
+          ),
         ))
 
     -- the replica stays one
@@ -189,3 +193,45 @@ module _ {D : Type 0} (sense : Sense D) (faults : D → ℕ) (last_step : D → 
         all : IsTrusted good sense kept_new → (image : List ℕ) → ReadsHeld digest old.held None image ⊎ ReadsHeld digest new.held (loose_of new.down) image → OpensToOf good sense kept_old image ⊎ OpensToOf good sense kept_new image
         all after image (inl reads) = inl (opens_held survives opens good old trusted.sound image reads)
         all after image (inr reads) = inr (opens_loose survives opens good new after.sound image reads)
+
+-- ---- what contracts say of a call
+
+-- All that contracts say of a call of a replica that is up.
+pub record Called {D T : Type 0} (sense : Sense D) (faults : D → ℕ) (last_step : D → Option DiskStep) (good : List ℕ → List ℕ → List ℕ → Bool) (gives : T → Held → Type 0) (refuses : Refusal → Type 0) (old : Kept D)
+    (result : Result T Refusal) (new : Kept D) : Type 0 where
+  pub step : IsStep old gives refuses result new
+  pub sound : AreSoundFronts good old → AreSoundFronts good new
+  pub crash : IsTrusted good sense old → Withstands good sense old new
+  pub honest : sense.honest new.disk ≡ sense.honest old.disk
+  pub disk : FailsWithDisk faults last_step old.disk new.disk result
+
+module _ {D T : Type 0} (sense : Sense D) (faults : D → ℕ) (last_step : D → Option DiskStep) (policy : List PlacedItem) (digest author : List ℕ) (good : List ℕ → List ℕ → List ℕ → Bool) (gives : Kept D → T → Held → Type 0)
+    (refuses : Kept D → Refusal → Type 0) (old : Parts D) (result : Result T Refusal) (new : Parts D) where
+  abbrev first : Kept D
+  first = kept_of policy digest author old
+
+  abbrev last : Kept D
+  last = kept_of policy digest author new
+
+  pub called : SurvivesSettled → OpensSound → (k : Kept D) → first ≡ k → k.down ≡ None →
+      Does sense faults last_step (record { policy = policy; digest = digest; good = good }) (gives first) (refuses first) old result new → IsBacked sense digest old.held old.down old.journal
+      → Called sense faults last_step good (gives k) (refuses k) k result last
+  called survives opens k same up does backed =
+      let rises : old.down ≡ None = ap (λ x. x.down) same ∙ up in
+      subst (λ x. Called sense faults last_step good (gives x) (refuses x) x result last) same (record {
+        step = step_done sense faults last_step policy digest author good (gives first) (refuses first) old result new rises does;
+        sound = fronts_done sense faults last_step policy digest author good (gives first) (refuses first) old result new rises does;
+        crash = withstands_done sense faults last_step policy digest author good (gives first) (refuses first) old result new rises survives opens does backed;
+        honest = honest_done sense faults last_step policy digest author good (gives first) (refuses first) old result new rises does;
+        disk = disk_done sense faults last_step policy digest author good (gives first) (refuses first) old result new rises does;
+      })
+
+  -- the replica is still one, and its disk has the journal of what it holds
+  pub still_one : (k : Kept D) → first ≡ k → k.down ≡ None →
+      Does sense faults last_step (record { policy = policy; digest = digest; good = good }) (gives first) (refuses first) old result new → IsReplica policy digest old.held → IsBacked sense digest old.held old.down old.journal
+      → IsReplica policy digest new.held × IsBacked sense digest new.held new.down new.journal
+  still_one k same up does is backed =
+      let rises : old.down ≡ None = ap (λ x. x.down) same ∙ up in (
+        replica_done sense faults last_step policy digest author good (gives first) (refuses first) old result new rises does is,
+        backed_done sense faults last_step policy digest author good (gives first) (refuses first) old result new rises does backed,
+      )

@@ -12,6 +12,7 @@ ghost use Rattle.replica.specs.working.Commits.{Gave, OpensSound, SurvivesSettle
 
 use crate::down::Down;
 use crate::refusal::Refusal;
+use accept::laws::{commands_have_one_answer, sound_commands_are_welcome};
 use base_bytes::Id;
 use braid_run::State;
 use command::{Commands, Graph};
@@ -26,6 +27,8 @@ pub fn journals_open()
     ensures opens { OpensSound }
 {
     settled_journals_survive();
+    sound_commands_are_welcome();
+    commands_have_one_answer();
 }
 
 /// Writes a commit that the journal made ready, and hands it back. Where the disk fails the replica is down, and the commit is loose. Takes no memory.

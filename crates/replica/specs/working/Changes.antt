@@ -79,9 +79,7 @@ abbrev pub refused_by : ActFault → Refusal
 refused_by act_fault.NoMemory = refusal.NoMemory
 refused_by other = refusal.Act other
 
--- An action was done on what a replica holds.
-pub record IsDone (basis : Basis) (old : Held) (action : Action) (before now : ℕ) (counts : Published) (new : Held) : Type 0 where
-  pub made : Made
-  pub acts : Acts basis old.rows action (Ok made) before now
-  pub counted : IsCounted basis.policy old.commands made counts
-  pub same_held : new ≡ applied old made
+-- An action was done on what a replica holds, and these are the counts of it.
+abbrev pub IsDone : Basis → Held → Action → ℕ → ℕ → Published → Held → Type 0
+IsDone basis old action before now counts new =
+    (made : Made) × Acts basis old.rows action (Ok made) before now × IsCounted basis.policy old.commands made counts × (new ≡ applied old made)
