@@ -11,3 +11,4 @@ pub mod CommitFacts
 pub mod CallFacts
 pub mod NamedFacts
 pub mod Opens
+pub mod DoneFacts

@@ -1,6 +1,6 @@
 //! The change of a take: prepared whole, written to the journal, and then made.
 
-ghost use Rattle.std.specs.Prelude.{◌≡◌, ◌<◌, ◌++◌, ℕ, List, None, Ok, Err, length, option_map, IfOk, IfSome};
+ghost use Rattle.std.specs.Prelude.{◌≡◌, ◌<◌, ◌≤◌, ◌++◌, ℕ, List, None, Ok, Err, length, option_map, IfOk, IfSome};
 ghost use Rattle.braid_run.specs.States.{IsStanding, extended};
 ghost use Rattle.replica.specs.Kept.{IsReplica};
 ghost use Rattle.replica.specs.Messages.{IsResponseRead};
@@ -50,7 +50,40 @@ fn prepare_for<R: Runner, G: Graph, F: FactBase, E: Envelope, L: Ledger>(
     Ok(ready)
 }
 
-/// Adds the commands of a change, once the journal has them, and takes its facts and entries. It answers what it was given to answer.
+/// Adds the commands of a change, for which there is room, once the journal has them, and takes its facts and entries. It answers what it was given to answer.
+fn write_change<G: Graph, F: FactBase, D: Disk, T: Drop>(
+    alloc: Global,
+    journal: &mut Journal<D>,
+    down: &mut Option<Down>,
+    state: &mut State<G, F>,
+    change: Change<F>,
+    reply: T,
+) -> Result<T, Refusal>
+    requires up { down.old ≡ None }
+    requires standing { IsStanding state.old.held.graph_id state.old.held.commands }
+    requires some { 0 < length change.commands }
+    requires behind { IsStanding state.old.held.graph_id (state.old.held.commands ++ change.commands) }
+    requires backed { (digest : List ℕ) × IsBacked (record { tells = D.tells; content = D.content; honest = D.honest }) digest state.old.held None journal.old }
+    requires room { length change.commands ≤ state.old.room }
+    requires entry_room { length change.ran.entries.all ≤ state.old.entry_room }
+    ensures reply { IfOk result (λ it. it ≡ reply) }
+    ensures commits { (digest : List ℕ) → IsBacked (record { tells = D.tells; content = D.content; honest = D.honest }) digest state.old.held None journal.old
+        → Commits (record { tells = D.tells; content = D.content; honest = D.honest }) D.faults D.last_step digest
+          (extended state.old.held change.commands 0 (F.rows change.ran.facts) change.ran.entries.all)
+          (record { held = state.old.held; down = down.old; journal = journal.old }) result (record { held = state.new.held; down = down.new; journal = journal.new }) }
+{
+    settled_journals_survive();
+    let Change { commands, ran } = change;
+    match write_commands(alloc, journal, down, commands) {
+        Ok(commands) => {
+            state.extend(commands, 0, ran);
+            Ok(reply)
+        }
+        Err(why) => Err(why),
+    }
+}
+
+/// The same, once there is room for them.
 fn commit_some<G: Graph, F: FactBase, D: Disk, T: Drop>(
     alloc: Global,
     journal: &mut Journal<D>,
@@ -71,14 +104,9 @@ fn commit_some<G: Graph, F: FactBase, D: Disk, T: Drop>(
           (record { held = state.old.held; down = down.old; journal = journal.old }) result (record { held = state.new.held; down = down.new; journal = journal.new }) }
 {
     settled_journals_survive();
-    let Change { commands, ran } = change;
-    state.reserve(alloc, commands.len(), ran.entries.len())?;
-    match write_commands(alloc, journal, down, commands) {
-        Ok(commands) => {
-            state.extend(commands, 0, ran);
-            Ok(reply)
-        }
-        Err(why) => Err(why),
+    match state.reserve(alloc, change.commands.len(), change.ran.entries.len()) {
+        Ok(()) => write_change(alloc, journal, down, state, change, reply),
+        Err(_) => Err(Refusal::NoMemory),
     }
 }
 
