@@ -3,3 +3,4 @@ pub mod Changes
 pub mod Backing
 pub mod Readings
 pub mod Openings
+pub mod Commits

@@ -2,10 +2,11 @@
 #![tactic(auto)]
 
 mod acting;
+mod changing;
+mod committing;
 mod counts;
 mod down;
 mod front;
-mod joining;
 pub mod laws;
 mod messages;
 mod opening;
