@@ -43,7 +43,7 @@ module _ {D : Type 0} (sense : Sense D) (faults : D → ℕ) (last_step : D → 
     own = record { policy = policy; digest = digest; good = good }
 
     -- an image that reads as what is held opens to it
-    opens_to : (p : Parts D) (loose : Option Commit) → ((commit : Commit) → loose ≡ Some commit → loose_of p.down ≡ Some commit) → AreSoundFronts good (kept_of policy digest author p) → (image : List ℕ) → ReadsHeld digest p.held loose image
+    pub opens_to : (p : Parts D) (loose : Option Commit) → ((commit : Commit) → loose ≡ Some commit → loose_of p.down ≡ Some commit) → AreSoundFronts good (kept_of policy digest author p) → (image : List ℕ) → ReadsHeld digest p.held loose image
         → OpensToOf good sense (kept_of policy digest author p) image
     opens_to p loose is_loose sound image reads = by reads.0 reads.1 reads.2
       where
@@ -68,10 +68,10 @@ module _ {D : Type 0} (sense : Sense D) (faults : D → ℕ) (last_step : D → 
     opens_held : (p : Parts D) → AreSoundFronts good (kept_of policy digest author p) → (image : List ℕ) → ReadsHeld digest p.held None image → OpensToOf good sense (kept_of policy digest author p) image
     opens_held p sound image reads = opens_to p None (λ commit no_loose. absurd cc) sound image reads
 
-    opens_loose : (p : Parts D) → AreSoundFronts good (kept_of policy digest author p) → (image : List ℕ) → ReadsHeld digest p.held (loose_of p.down) image → OpensToOf good sense (kept_of policy digest author p) image
+    pub opens_loose : (p : Parts D) → AreSoundFronts good (kept_of policy digest author p) → (image : List ℕ) → ReadsHeld digest p.held (loose_of p.down) image → OpensToOf good sense (kept_of policy digest author p) image
     opens_loose p sound image reads = opens_to p (loose_of p.down) (λ commit is. is) sound image reads
 
-    survives_now : (p : Parts D) → IsBacked sense digest p.held p.down p.journal → IsTrusted good sense (kept_of policy digest author p) → Survives good sense (kept_of policy digest author p)
+    pub survives_now : (p : Parts D) → IsBacked sense digest p.held p.down p.journal → IsTrusted good sense (kept_of policy digest author p) → Survives good sense (kept_of policy digest author p)
     survives_now p backed trusted image may = opens_loose p trusted.sound image (reads_backed sense digest survives p.held p.down p.journal backed trusted.tells trusted.honest image may)
 
     -- a call that changes nothing

@@ -13,3 +13,4 @@ pub mod NamedFacts
 pub mod Opens
 pub mod OpenFacts
 pub mod DoneFacts
+pub mod ReopenFacts

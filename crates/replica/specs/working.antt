@@ -4,3 +4,4 @@ pub mod Backing
 pub mod Readings
 pub mod Openings
 pub mod Commits
+pub mod Reopenings

@@ -12,6 +12,7 @@ mod messages;
 mod opening;
 mod refusal;
 mod replica;
+mod restarting;
 mod taking;
 
 pub use counts::{Published, Refused, Taken};

@@ -18,17 +18,18 @@ use crate::messages::{request_for, response_for};
 use crate::down::Down;
 use crate::opening::opened_state;
 use crate::refusal::Refusal;
+use crate::restarting::restart_on;
 use base_bytes::{Arg, Bytes, Id, NoMemory, Steps, Text};
 use braid_run::State;
+use braid_run::laws::lists_have_one_run;
 use command::Graph;
 use fact_store::FactBase;
-use journal::{Journal, OpenFault, open_journal};
+use journal::{Journal, OpenFault, images_read_as_one_thing, open_journal};
 use outside::{Disk, DiskStep, Envelope, author_of};
 use policy_ast::Policy;
 use policy_meaning::Runner;
 use std::alloc::Global;
 use std::marker::Model;
-use std::mem;
 use std::sync::ledger::Ledger;
 use sync_peer::{answer_to, first_request, next_request};
 
@@ -92,6 +93,8 @@ impl<R: Runner, G: Graph, F: FactBase, D: Disk> Replica<R, G, F, D> {
         ensures honest { D.honest (opened_disk result) ≡ D.honest disk }
         ensures cause { OpensWithDisk D.faults D.last_step disk (opened_disk result) (opened_front result) }
     {
+        journals_open();
+        images_read_as_one_thing();
         let (journal, commits) = match open_journal(alloc, disk, digest) {
             Ok(found) => found,
             Err((fault, disk)) => return Err((fault, runner, disk)),
@@ -121,16 +124,6 @@ impl<R: Runner, G: Graph, F: FactBase, D: Disk> Replica<R, G, F, D> {
             Some(down) => Err(Refusal::Down(down.step)),
             None => Ok(()),
         }
-    }
-
-    /// Its disk failed again at this step, with nothing written.
-    fn fall(&mut self, step: DiskStep) -> Refusal {
-        let loose = match mem::replace(&mut self.down, None) {
-            Some(down) => down.loose,
-            None => None,
-        };
-        self.down = Some(Down { step, loose });
-        Refusal::DiskFault(step)
     }
 
     /// Names the graph, where the replica has no graph id yet.
@@ -346,22 +339,18 @@ impl<R: Runner, G: Graph, F: FactBase, D: Disk> Replica<R, G, F, D> {
         ensures honest { D.honest self.new.disk ≡ D.honest self.old.disk }
         ensures disk { FailsWithDisk D.faults D.last_step self.old.disk self.new.disk result }
     {
-        let (reopened, commits) = match self.journal.reopen(alloc, &self.digest) {
-            Ok(found) => found,
-            Err(OpenFault::DiskFault(step)) => return Err(self.fall(step)),
-            Err(OpenFault::NoMemory) => return Err(Refusal::NoMemory),
-            Err(fault) => return Err(Refusal::Journal(fault)),
-        };
-        match opened_state::<R, G, F, E>(alloc, &self.runner, &self.digest, commits.as_slice(), env) {
-            Ok(state) => {
-                self.journal.adopt(reopened);
-                self.state = state;
-                self.down = None;
-                Ok(self.state.graph().len())
-            }
-            Err(OpenFault::NoMemory) => Err(Refusal::NoMemory),
-            Err(fault) => Err(Refusal::Journal(fault)),
-        }
+        journals_open();
+        images_read_as_one_thing();
+        lists_have_one_run();
+        restart_on::<R, G, F, D, E>(
+            alloc,
+            &self.runner,
+            &self.digest,
+            &mut self.journal,
+            &mut self.down,
+            &mut self.state,
+            env,
+        )
     }
 
     /// Its policy, which is well typed. Takes no memory.
