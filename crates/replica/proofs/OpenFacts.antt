@@ -212,15 +212,18 @@ sound_for_any criteria graph_id cs sound = record {
 
 -- ---- the state that commits lead to
 
-pub led_to : KeepSound → (criteria : Criteria) (items : List (ℕ × Commit)) (below_none added_none below added : List Command) (id : Option (List ℕ)) (olds : List Entry) (change : Change) (cut count : ℕ) (held : Held) →
+pub led_to : KeepSound → (criteria : Criteria) (items : List (ℕ × Commit)) (below_none added_none below added : List Command) (id : Option (List ℕ)) (olds : List Entry) (change : Change) (cut count : ℕ) (start held : Held) →
     AllByRecursion (λ item. IsCommitForm item.1) items → below_none ≡ [] → added_none ≡ [] → below ≡ below_none →
     Admits criteria (record { graph_id = None; commands = below_none ++ added_none }) items (Opens (record { graph_id = id; commands = below ++ added })) →
-    Reruns criteria.policy below added olds change cut count → held ≡ extended (record nothing_held { graph_id = id }) change.commands 0 change.rows change.entries → IsLedTo criteria items held
-led_to keeps criteria items below_none added_none below added id olds change cut count held forms no_below no_added same_below admits reruns same_held =
+    Reruns criteria.policy below added olds change cut count → start ≡ record nothing_held { graph_id = id } → held ≡ extended start change.commands 0 change.rows change.entries → IsLedTo criteria items held
+led_to keeps criteria items below_none added_none below added id olds change cut count start held forms no_below no_added same_below admits reruns same_start grown =
     record { opens = opens; sound = sound; replica = record { typed = subst (λ (h : Held). AreTyped criteria.policy h.rows) (sym same_held) reruns.typed; sound = any } }
   where
-    start : record { graph_id = None; commands = below_none ++ added_none } ≡ no_front
-    start = ap (λ l. record { graph_id = None; commands = l ++ added_none }) no_below ∙ ap (λ l. record { graph_id = None; commands = l }) no_added
+    same_held : held ≡ extended (record nothing_held { graph_id = id }) change.commands 0 change.rows change.entries
+    same_held = grown ∙ ap (λ h. extended h change.commands 0 change.rows change.entries) same_start
+
+    first : record { graph_id = None; commands = below_none ++ added_none } ≡ no_front
+    first = ap (λ l. record { graph_id = None; commands = l ++ added_none }) no_below ∙ ap (λ l. record { graph_id = None; commands = l }) no_added
 
     whole : below ++ added ≡ change.commands
     whole = ap (λ l. l ++ added) (same_below ∙ no_below) ∙ sym reruns.same_added
@@ -229,7 +232,7 @@ led_to keeps criteria items below_none added_none below added id olds change cut
     end = ap (λ l. record { graph_id = id; commands = l }) whole ∙ sym (ap front_of same_held)
 
     opens : Admits criteria no_front items (Opens (front_of held))
-    opens = subst (λ f. Admits criteria no_front items (Opens f)) end (subst (λ f. Admits criteria f items (Opens (record { graph_id = id; commands = below ++ added }))) start admits)
+    opens = subst (λ f. Admits criteria no_front items (Opens f)) end (subst (λ f. Admits criteria f items (Opens (record { graph_id = id; commands = below ++ added }))) first admits)
 
     run : IsRunOf criteria.policy held.commands held.rows held.entries
     run =

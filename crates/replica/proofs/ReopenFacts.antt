@@ -29,7 +29,7 @@ use Rattle.policy_ast.specs.declared.policy.PlacedItem.{PlacedItem}
 use Rattle.replica.specs.Calls.{IsRefusedJournal, Restarts, StaysAtRestart, restart_opens}
 use Rattle.replica.specs.Disks.{AreSoundFronts, FailsWithDisk, IsTrusted, MayOpenTo, OpensAlike, OpensToOf, OpensWhole, OpensWithDisk, Sense, Survives, Withstands}
 use Rattle.replica.specs.Fronts.{Admits, AnswersOpening, Front, IsDamaged, IsOfPolicy, Opening, Opens, OpensAs, OpensReading, behind_commit, behind_commits, front_of, no_front}
-use Rattle.replica.specs.Kept.{IsReplica, Kept, loose_of}
+use Rattle.replica.specs.Kept.{IsReplica, Kept, criteria_of, loose_of}
 use Rattle.replica.specs.declared.down.Down.{Down}
 use Rattle.replica.specs.declared.refusal.Refusal.{Refusal}
 use Rattle.replica.specs.declared.refusal.Refusal.TheVariants as refusal
@@ -266,6 +266,24 @@ module _ {D : Type 0} (sense : Sense D) (faults : D → ℕ) (last_step : D → 
           let found = settled told was in
           (found.0, subst (λ d. IsSettled (sense.content d) (journal_outline adopted) criteria.digest found.0) (sym same) found.1, found.2)
 
+-- ---- an opening, as contracts say it
+
+module _ {D : Type 0} (sense : Sense D) (faults : D → ℕ) (last_step : D → Option DiskStep) (policy : List PlacedItem) (digest author : List ℕ) (good : List ℕ → List ℕ → List ℕ → Bool) (held : Held)
+    (journal : Journal D) where
+  abbrev opened_parts : Parts D
+  opened_parts = record { held = held; down = None; journal = journal }
+
+  pub opened_trusted : SurvivesSettled → OpensSound → IsSound (record { policy = policy; digest = digest; good = good }) held → IsBacked sense digest held None journal → IsTrue sense.tells →
+      IsTrue (sense.honest (journal_disk journal)) → IsTrusted good sense (kept_of policy digest author opened_parts) × Survives good sense (kept_of policy digest author opened_parts)
+  opened_trusted survives opens sound backed told honest = (trusted, survives_now sense faults last_step policy digest author survives opens good opened_parts backed trusted)
+    where
+      fronts : AreSoundFronts good (kept_of policy digest author opened_parts)
+      fronts front (inl same) = subst (λ (f : Front). AreSound (record { policy = policy; digest = digest; good = good }) f.graph_id f.commands) (sym same) sound.commands
+      fronts front (inr (commit, loose, same)) = absurd cc
+
+      trusted : IsTrusted good sense (kept_of policy digest author opened_parts)
+      trusted = record { tells = told; honest = honest; sound = fronts }
+
 -- ---- a restart, as contracts say it
 
 module _ {D : Type 0} (sense : Sense D) (faults : D → ℕ) (last_step : D → Option DiskStep) (policy : List PlacedItem) (digest author : List ℕ) (good : List ℕ → List ℕ → List ℕ → Bool)
@@ -391,3 +409,39 @@ module _ {D : Type 0} (sense : Sense D) (faults : D → ℕ) (last_step : D → 
           all image (inr read) =
               let alike = opens_alike once judged_by (sense.content was.disk).reads image read.0 read.1 read.2 in
               inl (read_opens.0, read_opens.1, alike (Opens read_opens.0) read_opens.2)
+
+-- all that contracts say of a restart
+pub record Restarted {D : Type 0} (sense : Sense D) (faults : D → ℕ) (last_step : D → Option DiskStep) (good : List ℕ → List ℕ → List ℕ → Bool) (old : Kept D) (result : Result ℕ Refusal) (new : Kept D) : Type 0 where
+  pub step : Restarts old result new
+  pub opens : IsTrue sense.tells → AnswersOpening (criteria_of good old) (sense.content old.disk).reads (restart_opens result new)
+  pub stays : IsTrusted good sense old → StaysAtRestart old result new
+  pub sound : AreSoundFronts good old → AreSoundFronts good new
+  pub crash : IsTrusted good sense old → Withstands good sense old new
+  pub honest : sense.honest new.disk ≡ sense.honest old.disk
+  pub disk : FailsWithDisk faults last_step old.disk new.disk result
+
+module _ {D : Type 0} (sense : Sense D) (faults : D → ℕ) (last_step : D → Option DiskStep) (policy : List PlacedItem) (digest author : List ℕ) (good : List ℕ → List ℕ → List ℕ → Bool)
+    (old : Parts D) (result : Result ℕ Refusal) (new : Parts D) where
+  pub restarted : ReadOnce → SurvivesSettled → OpensSound → ((cs : List Command) → IsClosed cs → HasOneRun policy cs) →
+      (IsTrue sense.tells → IsTrue (sense.honest (journal_disk old.journal)) → IsImage (sense.content (journal_disk old.journal)).now (sense.content (journal_disk old.journal)).reads) →
+      IsReplica policy digest old.held → IsBacked sense digest old.held old.down old.journal → Reopens (record { policy = policy; digest = digest; good = good }) sense faults last_step old result new →
+      (k : Kept D) → kept_of policy digest author old ≡ k → Restarted sense faults last_step good k result (kept_of policy digest author new)
+  restarted once survives opens runs reads replica backed reopens k same =
+      subst (λ x. Restarted sense faults last_step good x result (kept_of policy digest author new)) same (record {
+        step = restarts sense faults last_step policy digest author good old result new reopens;
+        opens = restart_answers sense faults last_step policy digest author good old result new reopens;
+        stays = λ trusted. restart_stays sense faults last_step policy digest author good old result new reopens once survives opens backed trusted (reads trusted.tells trusted.honest) runs replica;
+        sound = restart_sound sense faults last_step policy digest author good old result new reopens;
+        crash = λ trusted. restart_withstands sense faults last_step policy digest author good old result new reopens once survives opens backed trusted (reads trusted.tells trusted.honest);
+        honest = reopens.honest;
+        disk = reopens.disk;
+      })
+
+-- the replica is still one
+pub restart_keeps : {D : Type 0} (sense : Sense D) (faults : D → ℕ) (last_step : D → Option DiskStep) (criteria : Criteria) (old : Parts D) (result : Result ℕ Refusal) (new : Parts D) →
+    IsReplica criteria.policy criteria.digest old.held → Reopens criteria sense faults last_step old result new → IsReplica criteria.policy criteria.digest new.held × IsBacked sense criteria.digest new.held new.down new.journal
+restart_keeps sense faults last_step criteria old result new replica reopens = (by result reopens.ends, reopens.backed)
+  where
+    by : (r : Result ℕ Refusal) → EndsReopening criteria old r new → IsReplica criteria.policy criteria.digest new.held
+    by (Ok count) (counts, sound, now, up) = now
+    by (Err why) (same, outlined, rest) = subst (IsReplica criteria.policy criteria.digest) (sym same) replica
