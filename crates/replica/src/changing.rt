@@ -188,6 +188,8 @@ pub fn take_twice_on<R: Runner, G: Graph, F: FactBase, D: Disk, E: Envelope, L: 
     let Ready { taken, change } = prepare_for::<R, G, F, E, L>(
         alloc, runner, digest, &*state, bytes, env, steps,
     )?;
-    let twin = taken.copy(alloc)?;
-    commit_change(alloc, journal, down, state, change, (taken, twin))
+    match taken.copy(alloc) {
+        Ok(twin) => commit_change(alloc, journal, down, state, change, (taken, twin)),
+        Err(_) => Err(Refusal::NoMemory),
+    }
 }

@@ -1,4 +1,4 @@
-ghost use Rattle.std.specs.Prelude.{◌≡◌, ◌+◌, ◌≤◌, ℕ, Bool, List, None, Err, Ok, IfErr, IfOk, IsTrue, OnOk, length, true};
+ghost use Rattle.std.specs.Prelude.{◌≡◌, ◌+◌, ◌≤◌, ℕ, Bool, List, None, Err, Ok, IfErr, IfOk, IsTrue, OnOk, false, length, true};
 ghost use Rattle.outside.specs.Causes.{Rose};
 ghost use Rattle.outside.specs.Envelope.{author_id};
 ghost use Rattle.policy_rules.specs.WellTyped.{IsWellTyped};
@@ -137,8 +137,8 @@ impl<R: Runner, G: Graph, F: FactBase, D: Disk> Replica<R, G, F, D> {
     {
         journals_open();
         self.check_up()?;
-        let known = self.state.graph_id().is_some();
-        if known {
+        let is_named = self.state.graph_id().is_some();
+        if is_named {
             return Err(Refusal::HasGraph);
         }
         join_on(alloc, &mut self.journal, &mut self.down, &mut self.state, graph)

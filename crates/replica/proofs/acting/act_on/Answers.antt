@@ -1,4 +1,4 @@
-use Rattle.std.proofs.Common.{◌≡◌, ◌⊎◌, inl, inr, ◌++◌, length, refl, sym, ap, subst, ◌∙◌, rules}
+use Rattle.std.proofs.Common.{◌≡◌, ◌⊎◌, inl, inr, ◌++◌, length, refl, sym, ap, subst, rules}
 use Rattle.braid_run.specs.Soundness.{Criteria}
 use Rattle.braid_run.specs.States.{Held, IsStanding}
 use Rattle.outside.specs.Causes.{Rose}
@@ -30,9 +30,11 @@ returns-in-Ok-clause-does g c =
     let is : IsReplica policy digest (applied old made) =
     replica_acted policy digest g.E.Envelope.good g.E.Envelope.tag_of c.args.author.now old (record { action = c.args.action.now; arguments = c.args.args.now; first = c.args.first }) made c.args.steps.now
     c.prepare.new.steps c.policy.ensures.well_typed c.requires.first c.requires.replica standing c.in-Ok.ensures.typed c.in-Ok.ensures.acts in
-    let counted =
-    counted_of policy digest old made (c.lists_have_one_run.ensures.named policy) c.requires.replica is c.published-counts.result
-    (c.published-counts.ensures ∙ ap (λ n. record { commands = length made.entries; merges = made.merges; cut = n; entries = length made.entries }) (c.len.ensures ∙ ap length (c.entries.ensures ∙ ap (λ h. h.entries) same))) in
+    let entries : c.entries.result.now.all ≡ old.entries = subst (λ (h : Held). c.entries.result.now.all ≡ h.entries) same c.entries.ensures in
+    let count : c.len.result ≡ length old.entries = subst (λ l. c.len.result ≡ length l) entries c.len.ensures in
+    let told : c.published-counts.result ≡ record { commands = length made.entries; merges = made.merges; cut = length old.entries; entries = length made.entries } =
+    subst (λ n. c.published-counts.result ≡ record { commands = length made.entries; merges = made.merges; cut = n; entries = length made.entries }) count c.published-counts.ensures in
+    let counted = counted_of policy digest old made (c.lists_have_one_run.ensures.named policy) c.requires.replica is c.published-counts.result told in
     inr (record {
       reply = c.published-counts.result;
       target = applied old made;
@@ -48,7 +50,12 @@ returns-in-Ok-clause-does g c =
 pub returns-in-Ok-clause-cause : goal.returns-in-Ok-clause-cause
 returns-in-Ok-clause-cause g c =
     let sense : Sense _ = record { tells = g.D.Disk.tells; content = g.D.Disk.content; honest = g.D.Disk.honest } in
-    no_act_fault _ _ c.commit_action.result _ act_fault.SealFault _
+    let p = c.in-Ok.prepared in
+    let between = c.prepare.new.state.held in
+    let target : Held = applied between (record { commands = p.commands; merges = p.merges; entries = p.entries.all; rows = g.F.FactBase.rows p.facts }) in
+    let before : Parts _ = record { held = between; down = c.args.down.now; journal = c.args.journal.now } in
+    let behind : Parts _ = record { held = c.commit_action.new.state.held; down = c.commit_action.new.down; journal = c.commit_action.new.journal } in
+    no_act_fault target before c.commit_action.result behind act_fault.SealFault _
     (c.commit_action.ensures.commits c.args.digest.now (subst (λ (h : Held). IsBacked sense c.args.digest.now h _ c.args.journal.now) (sym c.in-Ok.ensures.held) c.requires.backed)).ends
 
 pub returns-in-Err-clause-does : goal.returns-in-Err-clause-does
