@@ -1,9 +1,8 @@
 -- Commits that are admitted one after another.
-use Rattle.std.proofs.Common.{◌≡◌, ℕ, ◌+◌, ◌≤◌, inl, inr, Bool, true, false, IsTrue, List, [], ◌∷◌, ◌++◌, drop, length, take, slice_get, Option, Some, None, refl, sym, ap, subst, ◌∙◌, arith, append_assoc, append-nil, length-append}
-use Rattle.std.specs.Option.{is_some}
-use Rattle.std.specs.List.{All, AllByRecursion, Contains}
+use Rattle.std.proofs.Common.{◌≡◌, ℕ, ◌+◌, ◌≤◌, inl, inr, Bool, true, false, List, [], ◌∷◌, ◌++◌, length, take, Option, Some, None, refl, sym, ap, subst, ◌∙◌, arith, append_assoc, append-nil, length-append}
+use Rattle.std.specs.List.{All, AllByRecursion}
 use Rattle.accept.specs.Admission.{IsAdmission}
-use Rattle.accept.specs.Takes.{IsTake, IsTakenOn, Tally, counted, no_tally}
+use Rattle.accept.specs.Takes.{IsTake, IsTakenOn, Tally, counted}
 use Rattle.accept.specs.declared.answer.Admit.{Admit}
 use Rattle.accept.specs.declared.answer.Admit.TheVariants.{Added, Repeat, Refused}
 use Rattle.braid_run.specs.RunOf.{IsRunOf}
@@ -66,10 +65,11 @@ module _ (criteria : Criteria) (graph_id : Option (List ℕ)) where
         by : (answer : Admit) → IsAdmission criteria graph_id (held ++ done) c answer → IsTakenOn criteria graph_id held (counted (all_added done) c answer) list (all_added (done ++ c ∷ list)) →
             (IsTakenOn criteria graph_id held (all_added (done ++ c ∷ [])) list (all_added ((done ++ c ∷ []) ++ list)) → AllAdded criteria graph_id (held ++ (done ++ c ∷ [])) list) →
             AllAdded criteria graph_id (held ++ done) (c ∷ list)
-        by Added admission rest on =
-            (admission,
-            subst (λ l. AllAdded criteria graph_id l list) (sym (append_assoc held done (c ∷ [])))
-            (on (subst (λ l. IsTakenOn criteria graph_id held (all_added (done ++ c ∷ [])) list (all_added l)) (sym (append_assoc done (c ∷ []) list)) rest)))
+        by Added admission rest on = (
+          admission,
+          subst (λ l. AllAdded criteria graph_id l list) (sym (append_assoc held done (c ∷ [])))
+              (on (subst (λ l. IsTakenOn criteria graph_id held (all_added (done ++ c ∷ [])) list (all_added l)) (sym (append_assoc done (c ∷ []) list)) rest)),
+        )
         by Repeat admission rest on = absurd (less (counted (all_added done) c Repeat) refl rest)
         by (Refused why) admission rest on = absurd (less (counted (all_added done) c (Refused why)) refl rest)
 

@@ -1,5 +1,5 @@
 -- A disk that is opened: what commits lead to is backed by the journal that was read, and what stays is still backed.
-use Rattle.std.proofs.Common.{◌≡◌, ◌⊎◌, inl, inr, ℕ, ◌+◌, ◌≤◌, Bool, true, false, IsTrue, List, [], ◌∷◌, ◌++◌, length, map, Option, Some, None, Result, Ok, Err, Vec, refl, sym, ap, subst, ◌∙◌, arith, length-append}
+use Rattle.std.proofs.Common.{◌≡◌, ◌⊎◌, inl, inr, ℕ, ◌+◌, ◌≤◌, Bool, false, IsTrue, List, [], ◌∷◌, ◌++◌, length, map, Option, Some, None, Result, Ok, Err, Vec, refl, sym, ap, subst, ◌∙◌, arith, length-append}
 use Rattle.std.specs.List.{AllByRecursion}
 use Rattle.std.specs.Option.{is_none}
 use Rattle.std.specs.declared.alloc.Global.{Global}
@@ -11,8 +11,8 @@ use Rattle.command.specs.Closed.{IsClosed}
 use Rattle.command.specs.declared.command.Command.{Command}
 use Rattle.journal.specs.Calls.{failed_after, journal_disk, journal_failed, journal_outline}
 use Rattle.journal.specs.Commits.{IsCommitForm, command_count, gated, has_none}
-use Rattle.journal.specs.Images.{Damaged, Holds, OtherPolicy, Reading, ReadsAs}
-use Rattle.journal.specs.Journal.{AreOf, IsSettled, OpenFailsWith, OpenWrites, Opens as JournalOpens, StaysSettled, WasOrReadsAlike}
+use Rattle.journal.specs.Images.{Damaged, Holds, OtherPolicy, ReadsAs}
+use Rattle.journal.specs.Journal.{AreOf, IsSettled, OpenWrites, Opens as JournalOpens, StaysSettled, WasOrReadsAlike}
 use Rattle.journal.specs.Outline.{Outline}
 use Rattle.journal.specs.declared.commit.Commit.{Commit}
 use Rattle.journal.specs.declared.commit.Commit.TheVariants.{Graph, Commands}
@@ -27,19 +27,19 @@ use Rattle.outside.specs.declared.faults.DiskStep.{DiskStep}
 use Rattle.outside.proofs.Crashes.{weaker}
 use Rattle.policy_ast.specs.declared.policy.PlacedItem.{PlacedItem}
 use Rattle.replica.specs.Calls.{IsRefusedJournal, Restarts, StaysAtRestart, restart_opens}
-use Rattle.replica.specs.Disks.{AreSoundFronts, FailsWithDisk, IsTrusted, MayOpenTo, OpensAlike, OpensToOf, OpensWhole, OpensWithDisk, Sense, Survives, Withstands}
+use Rattle.replica.specs.Disks.{AreSoundFronts, FailsWithDisk, IsTrusted, MayOpenTo, OpensAlike, OpensToOf, OpensWhole, Sense, Survives, Withstands}
 use Rattle.replica.specs.Fronts.{Admits, AnswersOpening, Front, IsDamaged, IsOfPolicy, Opening, Opens, OpensAs, OpensReading, behind_commit, behind_commits, front_of, no_front}
 use Rattle.replica.specs.Kept.{IsReplica, Kept, criteria_of, loose_of}
 use Rattle.replica.specs.declared.down.Down.{Down}
 use Rattle.replica.specs.declared.refusal.Refusal.{Refusal}
 use Rattle.replica.specs.declared.refusal.Refusal.TheVariants as refusal
 use Rattle.replica.specs.working.Backing.{IsBacked, IsHeldBy, LeadTo, ReadsLoose}
-use Rattle.replica.specs.working.Commits.{OpensSound, Parts, ReadsHeld, SurvivesSettled}
+use Rattle.replica.specs.working.Commits.{OpensSound, Parts, SurvivesSettled}
 use Rattle.replica.specs.working.Openings.{IsLedTo, IsRefusedAt}
 use Rattle.replica.specs.working.Reopenings.{EndsReopening, IsKeptOut, Reopens, fallen, refused_opening, reopened_front}
 use Rattle.replica.proofs.CallFacts.{kept_of, survives_now}
 use Rattle.replica.proofs.CommitFacts.{leaves_now}
-use Rattle.replica.proofs.Opens.{ReadOnce, opens_once, same_gated, ungated}
+use Rattle.replica.proofs.Opens.{ReadOnce, opens_once, ungated}
 use Rattle.transaction.specs.Applying.{graph_named}
 
 -- ---- the front behind admitted commits
@@ -152,7 +152,7 @@ opens_whole once criteria old new only = weaker old new (WasOrReadsAlike criteri
 module _ {D : Type 0} (sense : Sense D) (faults : D → ℕ) (last_step : D → Option DiskStep) (criteria : Criteria) (once : ReadOnce) (survives : SurvivesSettled) (old : Parts D) (journal : Journal D)
     (reads : IsTrue sense.tells → IsTrue (sense.honest (journal_disk old.journal)) → MayLeave (sense.content (journal_disk old.journal)) (sense.content (journal_disk old.journal)).reads)
     (moments : IsTrue sense.tells → IsTrue (sense.honest (journal_disk old.journal)) →
-        LeavesOnly (sense.content (journal_disk old.journal)) (sense.content (journal_disk journal)) (WasOrReadsAlike criteria.digest (sense.content (journal_disk old.journal)))) where
+    LeavesOnly (sense.content (journal_disk old.journal)) (sense.content (journal_disk journal)) (WasOrReadsAlike criteria.digest (sense.content (journal_disk old.journal)))) where
   abbrev before : Content
   before = sense.content (journal_disk old.journal)
 
@@ -313,8 +313,8 @@ module _ {D : Type 0} (sense : Sense D) (faults : D → ℕ) (last_step : D → 
               step,
               fails,
               ap (λ h. record is { held = h }) same
-              ∙ ap (λ d. record is { held = old.held; down = d }) falls
-              ∙ ap (λ o. record is { held = old.held; down = Some (record { step = step; loose = loose_of old.down }); outline = o }) outlined,
+                  ∙ ap (λ d. record is { held = old.held; down = d }) falls
+                  ∙ ap (λ o. record is { held = old.held; down = Some (record { step = step; loose = loose_of old.down }); outline = o }) outlined,
             )
 
     pub restart_answers : IsTrue sense.tells → AnswersOpening judged_by (sense.content was.disk).reads (restart_opens result is)

@@ -1,4 +1,4 @@
-use Rattle.std.proofs.Common.{IsTrue, sym, ap, subst, ◌∙◌}
+use Rattle.std.proofs.Common.{IsTrue, sym, subst}
 use Rattle.braid_run.specs.Soundness.{Criteria}
 use Rattle.journal.specs.Calls.{journal_disk}
 use Rattle.journal.specs.declared.journal.Journal.{Journal}
