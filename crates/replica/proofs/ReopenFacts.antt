@@ -152,7 +152,7 @@ opens_whole once criteria old new only = weaker old new (WasOrReadsAlike criteri
 module _ {D : Type 0} (sense : Sense D) (faults : D → ℕ) (last_step : D → Option DiskStep) (criteria : Criteria) (once : ReadOnce) (survives : SurvivesSettled) (old : Parts D) (journal : Journal D)
     (reads : IsTrue sense.tells → IsTrue (sense.honest (journal_disk old.journal)) → MayLeave (sense.content (journal_disk old.journal)) (sense.content (journal_disk old.journal)).reads)
     (moments : IsTrue sense.tells → IsTrue (sense.honest (journal_disk old.journal)) →
-        LeavesOnly (sense.content (journal_disk old.journal)) (sense.content (journal_disk journal)) (WasOrReadsAlike criteria.digest (sense.content (journal_disk old.journal)))) where
+    LeavesOnly (sense.content (journal_disk old.journal)) (sense.content (journal_disk journal)) (WasOrReadsAlike criteria.digest (sense.content (journal_disk old.journal)))) where
   abbrev before : Content
   before = sense.content (journal_disk old.journal)
 
@@ -313,8 +313,8 @@ module _ {D : Type 0} (sense : Sense D) (faults : D → ℕ) (last_step : D → 
               step,
               fails,
               ap (λ h. record is { held = h }) same
-              ∙ ap (λ d. record is { held = old.held; down = d }) falls
-              ∙ ap (λ o. record is { held = old.held; down = Some (record { step = step; loose = loose_of old.down }); outline = o }) outlined,
+                  ∙ ap (λ d. record is { held = old.held; down = d }) falls
+                  ∙ ap (λ o. record is { held = old.held; down = Some (record { step = step; loose = loose_of old.down }); outline = o }) outlined,
             )
 
     pub restart_answers : IsTrue sense.tells → AnswersOpening judged_by (sense.content was.disk).reads (restart_opens result is)
