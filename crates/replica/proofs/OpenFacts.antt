@@ -142,31 +142,9 @@ named_stands (Some id) cs list standing = standing
 named_stands None cs list standing = renamed (graph_named None list) cs standing
 
 module _ (criteria : Criteria) where
-  pub goes_graph : (front : Front) (id : List ℕ) (new : Front) → front.graph_id ≡ None → IsStanding front.graph_id front.commands → new ≡ behind_commit front (Graph id) → Goes criteria front (Graph id) new
-  goes_graph front id new none standing same = record {
-    admitted = (none, refl);
-    same_front = same;
-    standing = subst (λ (f : Front). IsStanding f.graph_id f.commands) (sym same) (renamed (Some id) front.commands (subst (λ i. IsStanding i front.commands) none standing));
-  }
-
-  pub goes_commands : (front : Front) (list : List Command) (new : Front) (all : Bool) → new.graph_id ≡ graph_named front.graph_id list → AddsOrNot criteria new.graph_id front.commands list new.commands all →
-      GoesOrNot criteria front (Commands list) new all
-  goes_commands front list new true named adds = record {
-    admitted = (tt, subst (λ i. IsTake criteria i front.commands list (all_added list)) named adds.take);
-    same_front = same new.graph_id new.commands named adds.same_commands;
-    standing = adds.standing;
-  }
-    where
-      same : (id : Option (List ℕ)) (cs : List Command) → id ≡ graph_named front.graph_id list → cs ≡ front.commands ++ list → record { graph_id = id; commands = cs } ≡ behind_commit front (Commands list)
-      same id cs is are = cc
-  goes_commands front list new false named adds = λ are. adds (subst (λ i. IsTake criteria i front.commands list (all_added list)) (sym named) are.1)
-
   -- what is admitted behind a part of the commits
   abbrev pub GoesOn : Front → List (ℕ × Commit) → Front → List (ℕ × Commit) → Type 0
   GoesOn start all front left = (opening : Opening) → Admits criteria front left opening → Admits criteria start all opening
-
-  pub goes_on : (start front new : Front) (all left : List (ℕ × Commit)) (item : ℕ × Commit) → GoesOn start all front (item ∷ left) → Goes criteria front item.1 new → GoesOn start all new left
-  goes_on start front new all left item so_far goes = λ opening is. so_far opening (inl (goes.admitted, subst (λ f. Admits criteria f left opening) goes.same_front is))
 
 -- ---- soundness
 
