@@ -70,7 +70,7 @@ module _ (basis : Basis) where
   any_acts rows request result before now is = any_from (started basis request) rows result before now is
 
 -- what stands in a closed list has its form
-all_formed : (held made : List Command) → IsClosed (held ++ made) → All IsFormed made
+pub all_formed : (held made : List Command) → IsClosed (held ++ made) → All IsFormed made
 all_formed held made closed k d inside =
     let c = slice_index_or made k d in
     let at = split_at (held ++ made) c (Contains-append_right held made c (All-contains_itself made k d inside)) in

@@ -74,16 +74,17 @@ module _ {D E : Type 0} (good : List ℕ → List ℕ → List ℕ → Bool) (cr
   come (x ∷ xs) asker responder request None same is closed = absurd is
   come (x ∷ xs) asker responder None (Some bytes) same is closed = absurd same
   come (x ∷ xs) asker responder (Some request) (Some bytes) same is closed =
-      let given = is.2 in
+      let given = is.2.1 in
       let response = given.2.0 in
       let asked = same_request bytes x.responder.held.graph_id request given.0 same given.1 in
-      let got = is.5 in
+      let step = is.5.1 in
+      let got = step.1 in
       let read = same_response x.answer x.asker.held.graph_id response got.0 given.2.2 got.1 in
-      let takes = got.2.1 in
+      let takes = got.2 in
       let tally = takes.tally in
-      let on = is.6 in
+      let on = is.6.1 in
       let again = same_response x.answer x.left.held.graph_id response on.0 given.2.2 on.1 in
-      let left_is : x.left.held.commands ≡ x.asker.held.commands ++ tally.added = ap (λ k. k.held.commands) got.2.2 ∙ takes.commands in
+      let left_is : x.left.held.commands ≡ x.asker.held.commands ++ tally.added = ap (λ k. k.held.commands) step.2.same ∙ takes.commands in
       let rest = come xs x.left.held.commands x.responder.held.commands (next_of response) x.next (subst (λ r. AreNextBytes (next_of r) x.next) again on.2) is.7 closed in
       let answer : Answer = record { held = x.responder.held.commands; response = response } in (
         record { answer = answer; held = x.asker.held.commands; tally = tally } ∷ rest.0,
@@ -113,7 +114,7 @@ module _ {D E : Type 0} (good : List ℕ → List ℕ → List ℕ → Bool) (cr
       → (turns : List Turn) × IsWhole criteria id asker.held.commands responder.held.commands turns end × (all_refused turns ≡ told_refused xs)
       × (last_answered responder.held.commands turns ≡ last_responder responder.held.commands xs)
   whole_turns asker responder request xs end whole closed =
-      let asked = whole.asked in
+      let asked = whole.asked.1 in
       let named : asked.0 ≡ id = same_Some asked.0 id (sym asked.1 ∙ whole.in_graph.graph) in
       let first : IsRequest (request_of id asker.held.commands) request = subst (λ i. IsRequest (request_of i asker.held.commands) request) named asked.2 in
       let turns = come xs asker.held.commands responder.held.commands (Some (request_of id asker.held.commands)) (Some request) first whole.exchanged closed in (

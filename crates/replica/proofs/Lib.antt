@@ -7,3 +7,10 @@ pub mod JoinLists
 pub mod JoinFacts
 pub mod JoinWhole
 pub mod ExchangeFacts
+pub mod CommitFacts
+pub mod CallFacts
+pub mod NamedFacts
+pub mod Opens
+pub mod OpenFacts
+pub mod DoneFacts
+pub mod ReopenFacts

@@ -1,5 +1,5 @@
 -- Takes, command by command.
-use Rattle.std.proofs.Common.{◌≡◌, ℕ, ◌+◌, ◌-◌, ◌≤◌, List, [], ◌∷◌, ◌++◌, Option, length, map, take, slice_get, Some, None, refl, sym, ap, subst, ◌∙◌, arith, append_assoc, append-nil}
+use Rattle.std.proofs.Common.{◌≡◌, ℕ, ◌+◌, ◌-◌, ◌<◌, ◌≤◌, List, [], ◌∷◌, ◌++◌, Option, length, map, take, slice_get, Some, None, refl, sym, ap, subst, ◌∙◌, arith, append_assoc, append-nil}
 use Rattle.std.specs.List.{All}
 use Rattle.accept.specs.Admission.{IsAdmission}
 use Rattle.accept.specs.Takes.{IsTake, IsTakenOn, Refusal, Tally, counted, no_tally}
@@ -9,7 +9,7 @@ use Rattle.braid.specs.Braids.{IsBraid}
 use Rattle.braid_run.specs.RunOf.{IsRunOf}
 use Rattle.braid_run.specs.Runs.{run_of}
 use Rattle.braid_run.specs.declared.entry.Entry.{Entry}
-use Rattle.braid_run.specs.Soundness.{Criteria}
+use Rattle.braid_run.specs.Soundness.{AreSound, Criteria}
 use Rattle.braid_run.specs.States.{Held, IsStanding, extended}
 use Rattle.command.specs.Wire.{IsFormed, command_id}
 use Rattle.command.specs.declared.command.Command.{Command}
@@ -62,19 +62,31 @@ few_repeats criteria graph_id below c old new one = by one.answer one.same_tally
     by Repeat is = let same : new.repeats ≡ old.repeats + 1 = ap (λ t. t.repeats) is in omega (arith, same)
     by (Refused why) is = let same : new.repeats ≡ old.repeats = ap (λ t. t.repeats) is in omega (arith, same)
 
+-- that a take keeps a list sound is a law of admission
+abbrev pub KeepsTakes : Type 0
+KeepsTakes =
+    (criteria : Criteria) (graph_id : Option (List ℕ)) (commands list : List Command) (tally : Tally) → AreSound criteria graph_id commands → All IsFormed list → IsTake criteria graph_id commands list tally →
+    AreSound criteria graph_id (commands ++ tally.added)
+
 module _ (sound : KeepsSound) (criteria : Criteria) (held : Held) (response : Response) (taken : Taken) (added : List Command) (repeats : ℕ) (refused : List Refusal) (formed : All IsFormed response.commands)
     (standing : IsStanding held.graph_id (held.commands ++ added)) (is : IsReplica criteria.policy criteria.digest held)
     (names : (xs : List Command) → map (λ e. e.id) (run_of criteria.policy xs).entries ≡ map command_id xs)
-    (take : IsTake criteria held.graph_id held.commands response.commands (record { added = added; repeats = repeats; refused = refused })) where
+    (take : IsTake criteria held.graph_id held.commands response.commands (record { added = added; repeats = repeats; refused = refused })) (keeps : KeepsTakes) where
   run : IsRunOf criteria.policy held.commands held.rows held.entries
   run = is.sound.run
 
   kept : (new : Held) → Takes criteria held response taken new → AreTyped criteria.policy new.rows → IsReplica criteria.policy criteria.digest new
   kept new takes typed = replica_taken sound criteria.policy criteria.digest criteria.good held response taken new formed is takes typed
 
+  stays : (id : Option (List ℕ)) (cs : List Command) → id ≡ held.graph_id → cs ≡ held.commands ++ added → AreSound criteria held.graph_id held.commands → AreSound criteria id cs
+  stays id cs same_id same_cs sound =
+      subst (λ g. AreSound criteria g cs) (sym same_id)
+      (subst (λ l. AreSound criteria held.graph_id l) (sym same_cs)
+      (keeps criteria held.graph_id held.commands response.commands (record { added = added; repeats = repeats; refused = refused }) sound formed take))
+
   -- nothing is added
   pub ready_unchanged : added ≡ [] → taken ≡ record { added = 0; repeats = repeats; refused = refused; more = response.more; cut = length held.entries; entries = 0 } → IsReady criteria held response taken None
-  ready_unchanged none told = record { takes = takes; may_change = tt; replica = kept held takes is.typed }
+  ready_unchanged none told = record { takes = takes; may_change = tt; replica = kept held takes is.typed; sound = λ sound. sound }
     where
       same : held.commands ≡ held.commands ++ added
       same = sym (append-nil held.commands) ∙ ap (λ l. held.commands ++ l) (sym none)
@@ -99,12 +111,13 @@ module _ (sound : KeepsSound) (criteria : Criteria) (held : Held) (response : Re
       }
 
   -- the run behind what was added
-  pub ready_changed : (change : Change) (cut entries : ℕ) → Reruns criteria.policy held.commands added held.entries change cut entries →
+  pub ready_changed : 0 < length added → (change : Change) (cut entries : ℕ) → Reruns criteria.policy held.commands added held.entries change cut entries →
       taken ≡ record { added = length change.commands; repeats = repeats; refused = refused; more = response.more; cut = cut; entries = entries } → IsReady criteria held response taken (Some change)
-  ready_changed change cut entries reruns told = record {
+  ready_changed some change cut entries reruns told = record {
     takes = takes;
-    may_change = (subst (λ l. IsStanding held.graph_id (held.commands ++ l)) (sym reruns.same_added) standing, reruns.typed);
+    may_change = (subst (λ l. 0 < length l) (sym reruns.same_added) some, subst (λ l. IsStanding held.graph_id (held.commands ++ l)) (sym reruns.same_added) standing, reruns.typed);
     replica = kept (extended held change.commands 0 change.rows change.entries) takes reruns.typed;
+    sound = stays held.graph_id (held.commands ++ change.commands) refl (ap (λ l. held.commands ++ l) reruns.same_added);
   }
     where
       takes : Takes criteria held response taken (extended held change.commands 0 change.rows change.entries)

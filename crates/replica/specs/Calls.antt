@@ -1,5 +1,5 @@
 -- The calls of a replica, each as a step.
-use Rattle.std.specs.Prelude.{◌≡◌, ◌⊎◌, ⊥, ⊤, ℕ, Bool, List, length, Option, Some, None, IsSome, Result, Ok, Err}
+use Rattle.std.specs.Prelude.{◌≡◌, ◌⊎◌, ⊤, ℕ, Bool, List, length, Option, Some, None, IsSome, Result, Ok, Err}
 use Rattle.braid_run.specs.RunOf.{IsRunOf}
 use Rattle.braid_run.specs.States.{Held}
 use Rattle.journal.specs.declared.commit.Commit.{Commit}

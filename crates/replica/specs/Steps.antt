@@ -1,5 +1,5 @@
 -- How a call of a replica goes: it does what is asked, or refuses it, or its disk fails. Memory may lack in place of each.
-use Rattle.std.specs.Prelude.{◌≡◌, ◌⊎◌, Option, Some, None, Result, Ok, Err}
+use Rattle.std.specs.Prelude.{◌≡◌, ◌⊎◌, Some, None, Result, Ok, Err}
 use Rattle.braid_run.specs.States.{Held}
 use Rattle.journal.specs.declared.commit.Commit.{Commit}
 use Rattle.outside.specs.declared.faults.DiskStep.{DiskStep}
@@ -19,7 +19,7 @@ module _ {D : Type 0} (old : Kept D) where
   pub record FailsIn {T : Type 0} (gives : T → Held → Type 0) (step : DiskStep) (new : Kept D) : Type 0 where
     pub reply : T
     pub held : Held
-    pub gives : gives reply held
+    pub given : gives reply held
     pub commit : Commit
     pub leads : front_of held ≡ behind_commit (front_of old.held) commit
     pub same : new ≡ record old { disk = new.disk; down = Some (record { step = step; loose = Some commit }) }

@@ -2,3 +2,6 @@
 pub mod Changes
 pub mod Backing
 pub mod Readings
+pub mod Openings
+pub mod Commits
+pub mod Reopenings

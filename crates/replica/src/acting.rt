@@ -1,21 +1,25 @@
-ghost use Rattle.std.specs.Prelude.{◌≡◌, ◌+◌, ◌≤◌, ◌⊎◌, true, None, length, IfErr, IfOk};
+ghost use Rattle.std.specs.Prelude.{◌≡◌, ◌+◌, ◌≤◌, ℕ, List, [], true, None, length, IfErr, IfOk};
+ghost use Rattle.braid_run.specs.States.{IsStanding};
 ghost use Rattle.outside.specs.Causes.{Rose};
 ghost use Rattle.replica.specs.Actions.{IsFault};
 ghost use Rattle.replica.specs.Kept.{IsReplica};
 ghost use Rattle.replica.specs.declared.refusal.Refusal.TheVariants as refusal;
+ghost use Rattle.replica.specs.working.Backing.{IsBacked};
 ghost use Rattle.replica.specs.working.Changes.{IsDone, refused_by};
+ghost use Rattle.replica.specs.working.Commits.{Commits, Does};
+ghost use Rattle.transaction.specs.Applying.{IsReady, applied};
 ghost use Rattle.transaction.specs.declared.fault.ActFault.TheVariants as act_fault;
 
+use crate::committing::write_commands;
 use crate::counts::Published;
 use crate::down::Down;
-use crate::joining::write;
 use crate::refusal::Refusal;
 use base_bytes::{Arg, Id, Steps, Text};
 use braid_run::State;
 use braid_run::laws::lists_have_one_run;
 use command::Graph;
 use fact_store::FactBase;
-use journal::{Commit, Journal};
+use journal::{Journal, settled_journals_survive};
 use outside::{Disk, Envelope};
 use policy_meaning::Runner;
 use std::alloc::Global;
@@ -45,14 +49,28 @@ fn published<F: FactBase>(entries: usize, prepared: &Prepared<F>) -> Published
     }
 }
 
-/// Adds what an action published, once the journal has it. An action that publishes nothing writes nothing.
+/// Adds what an action published, once the journal has it, and answers the counts. An action that publishes nothing writes nothing.
 fn commit_action<G: Graph, F: FactBase, D: Disk>(
     alloc: Global,
     journal: &mut Journal<D>,
     down: &mut Option<Down>,
     state: &mut State<G, F>,
     prepared: Prepared<F>,
-) -> Result<(), Refusal> {
+    counts: Published,
+) -> Result<Published, Refusal>
+    requires up { down.old ≡ None }
+    requires standing { IsStanding state.old.held.graph_id state.old.held.commands }
+    requires ready { IsReady state.old (record { commands = prepared.commands; merges = prepared.merges; entries = prepared.entries.all; rows = F.rows prepared.facts }) }
+    requires nothing { prepared.commands ≡ []
+        → state.old.held ≡ applied state.old.held (record { commands = prepared.commands; merges = prepared.merges; entries = prepared.entries.all; rows = F.rows prepared.facts }) }
+    requires backed { (digest : List ℕ) × IsBacked (record { tells = D.tells; content = D.content; honest = D.honest }) digest state.old.held None journal.old }
+    ensures counts { IfOk result (λ it. it ≡ counts) }
+    ensures commits { (digest : List ℕ) → IsBacked (record { tells = D.tells; content = D.content; honest = D.honest }) digest state.old.held None journal.old
+        → Commits (record { tells = D.tells; content = D.content; honest = D.honest }) D.faults D.last_step digest
+        (applied state.old.held (record { commands = prepared.commands; merges = prepared.merges; entries = prepared.entries.all; rows = F.rows prepared.facts }))
+        (record { held = state.old.held; down = down.old; journal = journal.old }) result (record { held = state.new.held; down = down.new; journal = journal.new }) }
+{
+    settled_journals_survive();
     let Prepared {
         commands,
         merges,
@@ -60,12 +78,10 @@ fn commit_action<G: Graph, F: FactBase, D: Disk>(
         facts,
     } = prepared;
     if commands.len() == 0 {
-        return Ok(());
+        return Ok(counts);
     }
-    let commit = Commit::Commands(commands);
-    let ready = journal.ready(alloc, &commit)?;
-    match write(journal, down, commit, ready)? {
-        Commit::Commands(commands) => {
+    match write_commands(alloc, journal, down, commands) {
+        Ok(commands) => {
             apply(
                 state,
                 Prepared {
@@ -75,13 +91,13 @@ fn commit_action<G: Graph, F: FactBase, D: Disk>(
                     facts,
                 },
             );
-            Ok(())
+            Ok(counts)
         }
-        Commit::Graph(_) => unreachable!(),
+        Err(why) => Err(why),
     }
 }
 
-/// Runs an action on the state of a replica, and adds all that it publishes or nothing.
+/// Runs an action on the state of a replica that is up, and adds all that it publishes or nothing.
 pub fn act_on<R: Runner, G: Graph, F: FactBase, D: Disk, E: Envelope, L: Ledger>(
     alloc: Global,
     runner: &R,
@@ -96,15 +112,18 @@ pub fn act_on<R: Runner, G: Graph, F: FactBase, D: Disk, E: Envelope, L: Ledger>
     env: &mut E,
     steps: &mut Steps<L>,
 ) -> Result<Published, Refusal>
+    requires up { down.old ≡ None }
     requires replica { IsReplica (R.rules runner.now) digest.now state.old.held }
+    requires backed { IsBacked (record { tells = D.tells; content = D.content; honest = D.honest }) digest.now state.old.held None journal.old }
     requires first { first ≡ true → state.old.held.graph_id ≡ None }
-    ensures done { IfOk result (λ counts. IsDone (R.rules runner.now) digest.now
+    ensures does { Does (record { tells = D.tells; content = D.content; honest = D.honest }) D.faults D.last_step (record { policy = R.rules runner.now; digest = digest.now; good = E.good })
+        (λ counts held. IsDone
         (record { policy = R.rules runner.now; digest = digest.now; good = E.good; told = E.tag_of; author = author.now; held = state.old.held.commands })
-        state.old.held (record { action = action.now; arguments = args.now; first = first }) steps.old steps.new counts state.new.held) }
-    ensures refused { IfErr result (λ why. (why ≡ refusal.NoMemory) ⊎ IsFault
+        state.old.held (record { action = action.now; arguments = args.now; first = first }) steps.old steps.new counts held)
+        (λ why. IsFault
         (record { policy = R.rules runner.now; digest = digest.now; good = E.good; told = E.tag_of; author = author.now; held = state.old.held.commands })
-        state.old.held.rows (record { action = action.now; arguments = args.now; first = first }) steps.old steps.new why) }
-    ensures same { IfErr result (λ why. state.new.held ≡ state.old.held) }
+        state.old.held.rows (record { action = action.now; arguments = args.now; first = first }) steps.old steps.new why)
+        (record { held = state.old.held; down = down.old; journal = journal.old }) result (record { held = state.new.held; down = down.new; journal = journal.new }) }
     ensures ticks { IfOk result (λ counts. steps.new ≡ steps.old + counts.commands) }
     ensures later { E.faults env.old ≤ E.faults env.new }
     ensures cause { IfErr result (λ why. why ≡ refusal.Act act_fault.SealFault → Rose (E.faults env.old) (E.faults env.new)) }
@@ -116,8 +135,7 @@ pub fn act_on<R: Runner, G: Graph, F: FactBase, D: Disk, E: Envelope, L: Ledger>
     ) {
         Ok(prepared) => {
             let counts = published(state.entries().len(), &prepared);
-            commit_action(alloc, journal, down, state, prepared)?;
-            Ok(counts)
+            commit_action(alloc, journal, down, state, prepared, counts)
         }
         Err(fault) => Err(refused(fault)),
     }

@@ -2,15 +2,17 @@
 #![tactic(auto)]
 
 mod acting;
+mod changing;
+mod committing;
 mod counts;
 mod down;
 mod front;
-mod joining;
 pub mod laws;
 mod messages;
 mod opening;
 mod refusal;
 mod replica;
+mod restarting;
 mod taking;
 
 pub use counts::{Published, Refused, Taken};

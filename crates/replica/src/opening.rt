@@ -1,19 +1,21 @@
 //! What the commits of a journal lead to: their commands, admitted one after another.
 
-ghost use Rattle.std.specs.Prelude.{◌≡◌, ◌⊎◌, ◌++◌, ◌∷◌, [], ℕ, ⊥, None, Err, IfErr, IfOk, IsTrue, true, false};
-ghost use Rattle.std.specs.List.{AllByRecursion};
-ghost use Rattle.braid_run.specs.Soundness.{IsSound};
+ghost use Rattle.std.specs.Prelude.{◌≡◌, ◌<◌, ◌++◌, ◌∷◌, [], IfErr, IfOk, OnOk};
+ghost use Rattle.std.specs.List.{All, AllByRecursion};
 ghost use Rattle.braid_run.specs.States.{IsStanding};
 ghost use Rattle.command.specs.Wire.{IsFormed};
 ghost use Rattle.journal.specs.Commits.{IsCommitForm};
-ghost use Rattle.journal.specs.declared.fault.OpenFault.TheVariants as fault;
-ghost use Rattle.replica.specs.Fronts.{Admits, AreAdmitted, IsDamaged, Opens, behind_commit, front_of, no_front};
-ghost use Rattle.replica.specs.Kept.{IsReplica};
+ghost use Rattle.replica.specs.Fronts.{Admits, Opens};
+ghost use Rattle.replica.specs.Kept.{nothing_held};
+ghost use Rattle.replica.specs.working.Openings.{AddsOrNot, GoesOrNot, IsLedTo, IsRefusedAt, IsRefusedBehind, is_added};
+ghost use Rattle.transaction.specs.Applying.{graph_named};
 
 use crate::taking::{add, adopt, rerun};
+use accept::laws::{added_commands_are_sound, commands_have_one_answer, takes_keep_soundness};
 use accept::{Admit, admit_in};
 use base_bytes::{Id, NoMemory, Steps};
 use braid_run::State;
+use braid_run::laws::additions_stand;
 use command::{Command, Graph, id_of};
 use fact_store::FactBase;
 use graph_over::Over;
@@ -23,6 +25,16 @@ use policy_meaning::Runner;
 use std::alloc::Global;
 use std::marker::Brand;
 use std::sync::ledger::{Blank, Ledger};
+
+/// Whether a command is added.
+fn is_added(answer: &Admit) -> bool
+    ensures { result ≡ is_added answer.now }
+{
+    match answer {
+        Admit::Added => true,
+        _ => false,
+    }
+}
 
 /// Admits a command over what is held and what was added so far, and adds it. False where it isn't added.
 fn admit_one<R: Runner, G: Graph, F: FactBase, E: Envelope, L: Ledger>(
@@ -37,17 +49,21 @@ fn admit_one<R: Runner, G: Graph, F: FactBase, E: Envelope, L: Ledger>(
 ) -> Result<bool, NoMemory>
     requires formed { IsFormed command.now }
     requires standing { IsStanding graph_id.now (G.commands over.old.base.now ++ over.old.added.items) }
+    ensures base { OnOk result (G.commands over.new.base.now ≡ G.commands over.old.base.now) }
+    ensures adds { IfOk result (AddsOrNot (record { policy = R.rules runner.now; digest = digest.now; good = E.good }) graph_id.now
+        (G.commands over.old.base.now ++ over.old.added.items) (command.now ∷ []) (G.commands over.new.base.now ++ over.new.added.items)) }
 {
+    added_commands_are_sound();
+    additions_stand();
+    commands_have_one_answer();
     let answer = admit_in::<R, Over<'_, G>, F, E, L>(
         alloc, runner, digest, graph_id, &*over, command, env, steps,
     )?;
-    match answer {
-        Admit::Added => {
-            add(alloc, over, command)?;
-            Ok(true)
-        }
-        _ => Ok(false),
+    if !is_added(&answer) {
+        return Ok(false);
     }
+    add(alloc, over, command)?;
+    Ok(true)
 }
 
 /// Admits commands one after another, up to the first that isn't added. False where there is one.
@@ -60,7 +76,13 @@ fn admit_each<R: Runner, G: Graph, F: FactBase, E: Envelope, L: Ledger>(
     commands: &[Command],
     env: &E,
     steps: &mut Steps<L>,
-) -> Result<bool, NoMemory> {
+) -> Result<bool, NoMemory>
+    requires formed { All IsFormed commands.now }
+    requires standing { IsStanding graph_id.now (G.commands over.old.base.now ++ over.old.added.items) }
+    ensures base { OnOk result (G.commands over.new.base.now ≡ G.commands over.old.base.now) }
+    ensures adds { IfOk result (AddsOrNot (record { policy = R.rules runner.now; digest = digest.now; good = E.good }) graph_id.now
+        (G.commands over.old.base.now ++ over.old.added.items) commands.now (G.commands over.new.base.now ++ over.new.added.items)) }
+{
     for command in commands {
         if !admit_one::<R, G, F, E, L>(
             alloc, runner, digest, graph_id, over, command, env, steps,
@@ -72,7 +94,10 @@ fn admit_each<R: Runner, G: Graph, F: FactBase, E: Envelope, L: Ledger>(
 }
 
 /// The graph's id behind commands: the one that it has, or that of the first.
-fn named_by(graph_id: Option<Id>, commands: &[Command]) -> Option<Id> {
+fn named_by(graph_id: Option<Id>, commands: &[Command]) -> Option<Id>
+    requires { All IsFormed commands.now }
+    ensures { result ≡ graph_named graph_id commands.now }
+{
     if graph_id.is_some() || commands.is_empty() {
         return graph_id;
     }
@@ -89,7 +114,14 @@ fn admit_commit<R: Runner, G: Graph, F: FactBase, E: Envelope, L: Ledger>(
     commit: &Commit,
     env: &E,
     steps: &mut Steps<L>,
-) -> Result<bool, NoMemory> {
+) -> Result<bool, NoMemory>
+    requires form { IsCommitForm commit.now }
+    requires standing { IsStanding graph_id.old (G.commands over.old.base.now ++ over.old.added.items) }
+    ensures base { OnOk result (G.commands over.new.base.now ≡ G.commands over.old.base.now) }
+    ensures goes { IfOk result (GoesOrNot (record { policy = R.rules runner.now; digest = digest.now; good = E.good })
+        (record { graph_id = graph_id.old; commands = G.commands over.old.base.now ++ over.old.added.items }) commit.now
+        (record { graph_id = graph_id.new; commands = G.commands over.new.base.now ++ over.new.added.items })) }
+{
     match commit {
         Commit::Graph(id) => {
             if graph_id.is_some() {
@@ -124,15 +156,72 @@ fn admit_commits<R: Runner, G: Graph, F: FactBase, E: Envelope, L: Ledger>(
     commits: &[(u64, Commit)],
     env: &E,
     steps: &mut Steps<L>,
-) -> Result<(), OpenFault> {
-    for (gate, commit) in commits {
+) -> Result<(), OpenFault>
+    requires forms { AllByRecursion (λ item. IsCommitForm item.1) commits.now }
+    requires standing { IsStanding graph_id.old (G.commands over.old.base.now ++ over.old.added.items) }
+    ensures base { OnOk result (G.commands over.new.base.now ≡ G.commands over.old.base.now) }
+    ensures opens { OnOk result (Admits (record { policy = R.rules runner.now; digest = digest.now; good = E.good })
+        (record { graph_id = graph_id.old; commands = G.commands over.old.base.now ++ over.old.added.items }) commits.now
+        (Opens (record { graph_id = graph_id.new; commands = G.commands over.new.base.now ++ over.new.added.items }))) }
+    ensures standing { OnOk result (IsStanding graph_id.new (G.commands over.new.base.now ++ over.new.added.items)) }
+    ensures refused { IfErr result (IsRefusedBehind (record { policy = R.rules runner.now; digest = digest.now; good = E.good })
+        (record { graph_id = graph_id.old; commands = G.commands over.old.base.now ++ over.old.added.items }) commits.now) }
+{
+    for item in commits {
         if !admit_commit::<R, G, F, E, L>(
-            alloc, runner, digest, graph_id, over, commit, env, steps,
+            alloc, runner, digest, graph_id, over, &item.1, env, steps,
         )? {
-            return Err(OpenFault::Damaged { offset: *gate });
+            return Err(OpenFault::Damaged { offset: item.0 });
         }
     }
     Ok(())
+}
+
+/// Names the graph of an empty state, where it has a name.
+fn name_known<G: Graph, F: FactBase>(state: &mut State<G, F>, graph_id: Option<Id>)
+    requires nothing { state.old.held ≡ nothing_held }
+    ensures named { state.new.held ≡ record nothing_held { graph_id = graph_id } }
+{
+    if let Some(id) = graph_id {
+        state.name_graph(id);
+    }
+}
+
+/// The state that commits lead to, over a counter of the caller's.
+fn led_state<R: Runner, G: Graph, F: FactBase, E: Envelope, L: Ledger>(
+    alloc: Global,
+    runner: &R,
+    digest: &Id,
+    commits: &[(u64, Commit)],
+    env: &E,
+    blank: Blank,
+) -> Result<State<G, F>, OpenFault>
+    requires forms { AllByRecursion (λ item. IsCommitForm item.1) commits.now }
+    requires name { blank.name ≡ L.name }
+    requires parts { blank.parts ≡ L.parts }
+    requires some { 0 < L.parts }
+    ensures led { IfOk result (λ state. IsLedTo (record { policy = R.rules runner.now; digest = digest.now; good = E.good }) commits.now state.held) }
+    ensures refused { IfErr result (IsRefusedAt (record { policy = R.rules runner.now; digest = digest.now; good = E.good }) commits.now) }
+{
+    takes_keep_soundness();
+    let mut state = State::<G, F>::empty(alloc)?;
+    let mut graph_id = None;
+    let mut over = Over::on(alloc, state.graph());
+    let mut steps = Steps::<L>::start(blank);
+    admit_commits::<R, G, F, E, L>(
+        alloc,
+        runner,
+        digest,
+        &mut graph_id,
+        &mut over,
+        commits,
+        env,
+        &mut steps,
+    )?;
+    let rerun = rerun::<R, G, F, L>(alloc, runner, &[], over, &mut steps)?;
+    name_known(&mut state, graph_id);
+    adopt(alloc, &mut state, Some(rerun.change))?;
+    Ok(state)
 }
 
 /// The state that commits lead to, each with the place of its gate. The first that isn't admitted whole is damaged.
@@ -144,30 +233,8 @@ pub fn opened_state<R: Runner, G: Graph, F: FactBase, E: Envelope>(
     env: &E,
 ) -> Result<State<G, F>, OpenFault>
     requires forms { AllByRecursion (λ item. IsCommitForm item.1) commits.now }
-    ensures opens { IfOk result (λ state. Admits (record { policy = R.rules runner.now; digest = digest.now; good = E.good }) no_front commits.now (Opens (front_of state.held))) }
-    ensures damaged { (offset : ℕ) → result ≡ Err (fault.Damaged offset) → Admits (record { policy = R.rules runner.now; digest = digest.now; good = E.good }) no_front commits.now (IsDamaged offset) }
-    ensures fault { IfErr result (λ why. (why ≡ fault.NoMemory) ⊎ ((offset : ℕ) × (why ≡ fault.Damaged offset))) }
-    ensures replica { IfOk result (λ state. IsReplica (R.rules runner.now) digest.now state.held) }
-    ensures sound { IfOk result (λ state. IsSound (record { policy = R.rules runner.now; digest = digest.now; good = E.good }) state.held) }
+    ensures led { IfOk result (λ state. IsLedTo (record { policy = R.rules runner.now; digest = digest.now; good = E.good }) commits.now state.held) }
+    ensures refused { IfErr result (IsRefusedAt (record { policy = R.rules runner.now; digest = digest.now; good = E.good }) commits.now) }
 {
-    let mut state = State::<G, F>::empty(alloc)?;
-    let mut graph_id = None;
-    let mut over = Over::on(alloc, state.graph());
-    let mut steps = Steps::<Brand>::start(Blank::new(1));
-    admit_commits::<R, G, F, E, Brand>(
-        alloc,
-        runner,
-        digest,
-        &mut graph_id,
-        &mut over,
-        commits,
-        env,
-        &mut steps,
-    )?;
-    let rerun = rerun::<R, G, F, Brand>(alloc, runner, &[], over, &mut steps)?;
-    if let Some(id) = graph_id {
-        state.name_graph(id);
-    }
-    adopt(alloc, &mut state, Some(rerun.change))?;
-    Ok(state)
+    led_state::<R, G, F, E, Brand>(alloc, runner, digest, commits, env, Blank::new(1))
 }

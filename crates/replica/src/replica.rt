@@ -1,4 +1,4 @@
-ghost use Rattle.std.specs.Prelude.{◌≡◌, ◌+◌, ◌≤◌, ℕ, Bool, List, None, Err, Ok, IfErr, IfOk, IsTrue, length, true};
+ghost use Rattle.std.specs.Prelude.{◌≡◌, ◌+◌, ◌≤◌, ℕ, Bool, List, None, Err, Ok, IfErr, IfOk, IsTrue, OnOk, false, length, true};
 ghost use Rattle.outside.specs.Causes.{Rose};
 ghost use Rattle.outside.specs.Envelope.{author_id};
 ghost use Rattle.policy_rules.specs.WellTyped.{IsWellTyped};
@@ -6,28 +6,30 @@ ghost use Rattle.replica.specs.Calls.{ActsIn, Answers, Asks, AsksNext, Begins, I
 ghost use Rattle.replica.specs.Disks.{AreSoundFronts, FailsWithDisk, IsTrusted, OpensWhole, OpensWithDisk, Survives, Withstands};
 ghost use Rattle.replica.specs.Fronts.{AnswersOpening};
 ghost use Rattle.replica.specs.Kept.{IsReplica, criteria_of, step_of};
+ghost use Rattle.replica.specs.Steps.{SaysDown};
 ghost use Rattle.replica.specs.declared.refusal.Refusal.TheVariants as refusal;
 ghost use Rattle.transaction.specs.declared.fault.ActFault.TheVariants as act_fault;
 
 use crate::acting::act_on;
+use crate::changing::{take_on, take_twice_on};
+use crate::committing::{join_on, journals_open};
 use crate::counts::{Published, Taken};
-use crate::messages::{request_for, response_for};
 use crate::down::Down;
-use crate::joining::join_on;
+use crate::messages::{request_for, response_for};
 use crate::opening::opened_state;
 use crate::refusal::Refusal;
-use crate::taking::{Ready, commit_change, prepare_take};
+use crate::restarting::restart_on;
 use base_bytes::{Arg, Bytes, Id, NoMemory, Steps, Text};
 use braid_run::State;
+use braid_run::laws::lists_have_one_run;
 use command::Graph;
 use fact_store::FactBase;
-use journal::{Journal, OpenFault, open_journal};
+use journal::{Journal, OpenFault, images_read_as_one_thing, open_journal};
 use outside::{Disk, DiskStep, Envelope, author_of};
 use policy_ast::Policy;
 use policy_meaning::Runner;
 use std::alloc::Global;
 use std::marker::Model;
-use std::mem;
 use std::sync::ledger::Ledger;
 use sync_peer::{answer_to, first_request, next_request};
 
@@ -91,6 +93,8 @@ impl<R: Runner, G: Graph, F: FactBase, D: Disk> Replica<R, G, F, D> {
         ensures honest { D.honest (opened_disk result) ≡ D.honest disk }
         ensures cause { OpensWithDisk D.faults D.last_step disk (opened_disk result) (opened_front result) }
     {
+        journals_open();
+        images_read_as_one_thing();
         let (journal, commits) = match open_journal(alloc, disk, digest) {
             Ok(found) => found,
             Err((fault, disk)) => return Err((fault, runner, disk)),
@@ -108,22 +112,18 @@ impl<R: Runner, G: Graph, F: FactBase, D: Disk> Replica<R, G, F, D> {
         }
     }
 
-    /// Whether it is up; and else at which step its disk failed.
-    fn check_up(&self) -> Result<(), Refusal> {
+    /// Whether it is up; and else at which step its disk failed. A call that changes nothing withstands a crash.
+    fn check_up(&self) -> Result<(), Refusal>
+        ensures up { OnOk result (self.now.down ≡ None) }
+        ensures down { IfErr result (λ why. SaysDown self.now why) }
+        ensures stays { (good : List ℕ → List ℕ → List ℕ → Bool) → IsTrusted good (record { tells = D.tells; content = D.content; honest = D.honest }) self.now
+            → Withstands good (record { tells = D.tells; content = D.content; honest = D.honest }) self.now self.now }
+    {
+        journals_open();
         match &self.down {
             Some(down) => Err(Refusal::Down(down.step)),
             None => Ok(()),
         }
-    }
-
-    /// Its disk failed again at this step, with nothing written.
-    fn fall(&mut self, step: DiskStep) -> Refusal {
-        let loose = match mem::replace(&mut self.down, None) {
-            Some(down) => down.loose,
-            None => None,
-        };
-        self.down = Some(Down { step, loose });
-        Refusal::DiskFault(step)
     }
 
     /// Names the graph, where the replica has no graph id yet.
@@ -135,11 +135,19 @@ impl<R: Runner, G: Graph, F: FactBase, D: Disk> Replica<R, G, F, D> {
         ensures honest { D.honest self.new.disk ≡ D.honest self.old.disk }
         ensures disk { FailsWithDisk D.faults D.last_step self.old.disk self.new.disk result }
     {
+        journals_open();
         self.check_up()?;
-        if self.state.graph_id().is_some() {
+        let is_named = self.state.graph_id().is_some();
+        if is_named {
             return Err(Refusal::HasGraph);
         }
-        join_on(alloc, &mut self.journal, &mut self.down, &mut self.state, graph)
+        join_on(
+            alloc,
+            &mut self.journal,
+            &mut self.down,
+            &mut self.state,
+            graph,
+        )
     }
 
     /// Runs an action, and adds all that it publishes or nothing.
@@ -163,8 +171,9 @@ impl<R: Runner, G: Graph, F: FactBase, D: Disk> Replica<R, G, F, D> {
         ensures honest { D.honest self.new.disk ≡ D.honest self.old.disk }
         ensures disk { FailsWithDisk D.faults D.last_step self.old.disk self.new.disk result }
     {
+        journals_open();
         self.check_up()?;
-        let counts = act_on(
+        act_on(
             alloc,
             &self.runner,
             &self.digest,
@@ -177,8 +186,7 @@ impl<R: Runner, G: Graph, F: FactBase, D: Disk> Replica<R, G, F, D> {
             first,
             env,
             steps,
-        )?;
-        Ok(counts)
+        )
     }
 
     /// The first action of a graph, which its first command names; where the replica has no graph id yet. All that it publishes is added, or nothing.
@@ -264,31 +272,6 @@ impl<R: Runner, G: Graph, F: FactBase, D: Disk> Replica<R, G, F, D> {
         Ok(response.to_bytes(alloc)?)
     }
 
-    /// A take of a response, up to the change.
-    fn prepare_take<E: Envelope, L: Ledger>(
-        &self,
-        alloc: Global,
-        bytes: &[u8],
-        env: &E,
-        steps: &mut Steps<L>,
-    ) -> Result<Ready<F>, Refusal>
-        ensures { IsReply (λ ready. (response : TheResponse) × IsResponseRead bytes.now self.now.held.graph_id (Ok response) × IsReady (criteria_of E.good self.now) self.now.held response ready.taken
-            (option_map (λ change. record { commands = change.commands; rows = F.rows change.ran.facts; entries = change.ran.entries.all }) ready.change))
-            (λ why. IsResponseRead bytes.now self.now.held.graph_id (Err why)) result }
-    {
-        let response = response_for(alloc, bytes, &self.state.graph_id())?;
-        let ready = prepare_take::<R, G, F, E, L>(
-            alloc,
-            &self.runner,
-            &self.digest,
-            &self.state,
-            &response,
-            env,
-            steps,
-        )?;
-        Ok(ready)
-    }
-
     /// Admits the commands of a response one after another, each over what the ones before left, adds those that are admitted and runs the braid of all.
     /// A refused command changes nothing, and the later ones are still tried.
     pub fn take<E: Envelope, L: Ledger>(
@@ -305,10 +288,19 @@ impl<R: Runner, G: Graph, F: FactBase, D: Disk> Replica<R, G, F, D> {
         ensures honest { D.honest self.new.disk ≡ D.honest self.old.disk }
         ensures disk { FailsWithDisk D.faults D.last_step self.old.disk self.new.disk result }
     {
+        journals_open();
         self.check_up()?;
-        let Ready { taken, change } = self.prepare_take(alloc, response, env, steps)?;
-        commit_change(alloc, &mut self.journal, &mut self.down, &mut self.state, change)?;
-        Ok(taken)
+        take_on(
+            alloc,
+            &self.runner,
+            &self.digest,
+            &mut self.journal,
+            &mut self.down,
+            &mut self.state,
+            response,
+            env,
+            steps,
+        )
     }
 
     /// A take that answers twice the same, both of which stand in memory before anything is changed.
@@ -326,11 +318,19 @@ impl<R: Runner, G: Graph, F: FactBase, D: Disk> Replica<R, G, F, D> {
         ensures honest { D.honest self.new.disk ≡ D.honest self.old.disk }
         ensures disk { FailsWithDisk D.faults D.last_step self.old.disk self.new.disk result }
     {
+        journals_open();
         self.check_up()?;
-        let Ready { taken, change } = self.prepare_take(alloc, response, env, steps)?;
-        let twin = taken.copy(alloc)?;
-        commit_change(alloc, &mut self.journal, &mut self.down, &mut self.state, change)?;
-        Ok((taken, twin))
+        take_twice_on(
+            alloc,
+            &self.runner,
+            &self.digest,
+            &mut self.journal,
+            &mut self.down,
+            &mut self.state,
+            response,
+            env,
+            steps,
+        )
     }
 
     /// Opens the disk again, takes what its journal holds, and answers how many commands are held. While the disk returns what was written, what is held
@@ -345,22 +345,18 @@ impl<R: Runner, G: Graph, F: FactBase, D: Disk> Replica<R, G, F, D> {
         ensures honest { D.honest self.new.disk ≡ D.honest self.old.disk }
         ensures disk { FailsWithDisk D.faults D.last_step self.old.disk self.new.disk result }
     {
-        let (reopened, commits) = match self.journal.reopen(alloc, &self.digest) {
-            Ok(found) => found,
-            Err(OpenFault::DiskFault(step)) => return Err(self.fall(step)),
-            Err(OpenFault::NoMemory) => return Err(Refusal::NoMemory),
-            Err(fault) => return Err(Refusal::Journal(fault)),
-        };
-        match opened_state::<R, G, F, E>(alloc, &self.runner, &self.digest, commits.as_slice(), env) {
-            Ok(state) => {
-                self.journal.adopt(reopened);
-                self.state = state;
-                self.down = None;
-                Ok(self.state.graph().len())
-            }
-            Err(OpenFault::NoMemory) => Err(Refusal::NoMemory),
-            Err(fault) => Err(Refusal::Journal(fault)),
-        }
+        journals_open();
+        images_read_as_one_thing();
+        lists_have_one_run();
+        restart_on::<R, G, F, D, E>(
+            alloc,
+            &self.runner,
+            &self.digest,
+            &mut self.journal,
+            &mut self.down,
+            &mut self.state,
+            env,
+        )
     }
 
     /// Its policy, which is well typed. Takes no memory.

@@ -1,4 +1,4 @@
-ghost use Rattle.std.specs.Prelude.{◌≡◌, ◌+◌, ◌<◌, ◌^◌, [], ◌∷◌, ◌++◌, length, option_map, IsTrue, IfOk, IfSome, OnOk, OnErr};
+ghost use Rattle.std.specs.Prelude.{◌≡◌, ◌+◌, ◌<◌, ◌^◌, [], ◌∷◌, ◌++◌, false, length, option_map, IsTrue, IfOk, IfSome, OnOk, OnErr};
 ghost use Rattle.std.specs.List.{All};
 ghost use Rattle.accept.specs.Takes.{IsTake, counted};
 ghost use Rattle.accept.specs.declared.answer.Admit.TheVariants as admitted;
@@ -11,11 +11,8 @@ ghost use Rattle.replica.specs.Kept.{IsReplica};
 ghost use Rattle.replica.specs.working.Changes.{CountsOne, IsReady, Reruns, changed};
 
 use crate::counts::{Refused, Taken};
-use crate::down::Down;
 use crate::front::shared_front;
-use crate::joining::write;
-use crate::refusal::Refusal;
-use accept::laws::added_commands_are_sound;
+use accept::laws::{added_commands_are_sound, takes_keep_soundness};
 use accept::{Admit, admit_in};
 use base_bytes::{Id, NoMemory, Steps};
 use braid::closures_have_one_braid;
@@ -24,8 +21,7 @@ use braid_run::{Entry, Ran, State, run_all};
 use command::{Command, Commands, Graph, id_of};
 use fact_store::FactBase;
 use graph_over::Over;
-use journal::{Commit, Journal};
-use outside::{Disk, Envelope};
+use outside::Envelope;
 use policy_meaning::Runner;
 use std::alloc::Global;
 use std::sync::ledger::Ledger;
@@ -65,7 +61,11 @@ fn count<G: Graph>(
 }
 
 /// Adds a copy of the command.
-pub fn add<G: Graph>(alloc: Global, over: &mut Over<'_, G>, command: &Command) -> Result<(), NoMemory>
+pub fn add<G: Graph>(
+    alloc: Global,
+    over: &mut Over<'_, G>,
+    command: &Command,
+) -> Result<(), NoMemory>
     requires few { length (G.commands over.old.base.now ++ over.old.added.items) < max_commands }
     requires next { IsNext (G.commands over.old.base.now ++ over.old.added.items) command.now }
     ensures base { G.commands over.new.base.now ≡ G.commands over.old.base.now }
@@ -200,7 +200,8 @@ pub fn rerun<R: Runner, G: Graph, F: FactBase, L: Ledger>(
 
 /// Whether there are no commands.
 fn is_none(commands: &[Command]) -> bool
-    ensures { IsTrue result → commands.now ≡ [] }
+    ensures none { IsTrue result → commands.now ≡ [] }
+    ensures some { result ≡ false → 0 < length commands.now }
 {
     commands.is_empty()
 }
@@ -228,6 +229,7 @@ pub fn prepare_take<R: Runner, G: Graph, F: FactBase, E: Envelope, L: Ledger>(
         (option_map (λ change. record { commands = change.commands; rows = F.rows change.ran.facts; entries = change.ran.entries.all }) ready.change)) }
 {
     added_commands_are_sound();
+    takes_keep_soundness();
     lists_have_one_run();
     let graph_id = state.graph_id();
     let mut over = Over::on(alloc, state.graph());
@@ -290,29 +292,6 @@ fn extend<G: Graph, F: FactBase>(
     state.reserve(alloc, commands.len(), ran.entries.len())?;
     state.extend(commands, 0, ran);
     Ok(())
-}
-
-/// Makes the change of a take, once the journal has the commands. A take that adds nothing writes nothing.
-pub fn commit_change<G: Graph, F: FactBase, D: Disk>(
-    alloc: Global,
-    journal: &mut Journal<D>,
-    down: &mut Option<Down>,
-    state: &mut State<G, F>,
-    change: Option<Change<F>>,
-) -> Result<(), Refusal> {
-    let Some(Change { commands, ran }) = change else {
-        return Ok(());
-    };
-    state.reserve(alloc, commands.len(), ran.entries.len())?;
-    let commit = Commit::Commands(commands);
-    let ready = journal.ready(alloc, &commit)?;
-    match write(journal, down, commit, ready)? {
-        Commit::Commands(commands) => {
-            state.extend(commands, 0, ran);
-            Ok(())
-        }
-        Commit::Graph(_) => unreachable!(),
-    }
 }
 
 /// Makes the change of a take; without memory the state stays as it was.

@@ -1,12 +1,12 @@
 -- What a take comes to before anything is changed, and what is held once it is adopted.
-use Rattle.std.specs.Prelude.{◌≡◌, ℕ, ◌-◌, Bool, List, ◌++◌, length, Option, Some, None, Ok}
+use Rattle.std.specs.Prelude.{◌≡◌, ℕ, ◌-◌, ◌<◌, Bool, List, ◌++◌, length, Option, Some, None, Ok}
 use Rattle.std.specs.List.{common_prefix_len}
 use Rattle.std.specs.Str.{bytes_eq}
 use Rattle.accept.specs.Admission.{IsAdmission}
 use Rattle.accept.specs.Takes.{Tally, counted}
 use Rattle.accept.specs.declared.answer.Admit.{Admit}
 use Rattle.braid_run.specs.RunOf.{IsRunOf}
-use Rattle.braid_run.specs.Soundness.{Criteria}
+use Rattle.braid_run.specs.Soundness.{AreSound, Criteria}
 use Rattle.braid_run.specs.States.{Held, IsStanding, extended}
 use Rattle.braid_run.specs.declared.entry.Entry.{Entry}
 use Rattle.command.specs.declared.command.Command.{Command}
@@ -15,6 +15,7 @@ use Rattle.policy_ast.specs.declared.policy.PlacedItem.{PlacedItem}
 use Rattle.policy_meaning.specs.Typed.{AreTyped}
 use Rattle.replica.specs.Actions.{IsCounted}
 use Rattle.replica.specs.Kept.{IsReplica}
+use Rattle.replica.specs.Messages.{IsResponseRead}
 use Rattle.replica.specs.Takes.{Takes}
 use Rattle.replica.specs.declared.counts.Published.{Published}
 use Rattle.replica.specs.declared.counts.Taken.{Taken}
@@ -47,16 +48,23 @@ pub record CountsOne (criteria : Criteria) (graph_id : Option (List ℕ)) (below
   pub admission : IsAdmission criteria graph_id (below ++ old.added) c answer
   pub same_tally : new ≡ counted old c answer
 
--- The change of a take may be adopted: all that is held then stands, and the facts are typed.
+-- The change of a take may be adopted: it adds commands, all that is held then stands, and the facts are typed.
 abbrev pub MayChange : Criteria → Held → Option Change → Type 0
 MayChange criteria held None = Unit {0}
-MayChange criteria held (Some change) = IsStanding held.graph_id (held.commands ++ change.commands) × AreTyped criteria.policy change.rows
+MayChange criteria held (Some change) = (0 < length change.commands) × IsStanding held.graph_id (held.commands ++ change.commands) × AreTyped criteria.policy change.rows
 
--- What a take comes to, and the change that it asks for, behind which the replica is still one.
+-- What a take comes to, and the change that it asks for, behind which the replica is still one, and what was sound still sound.
 pub record IsReady (criteria : Criteria) (held : Held) (response : Response) (taken : Taken) (change : Option Change) : Type 0 where
   pub takes : Takes criteria held response taken (changed held change)
   pub may_change : MayChange criteria held change
   pub replica : IsReplica criteria.policy criteria.digest (changed held change)
+  pub sound : AreSound criteria held.graph_id held.commands → AreSound criteria (changed held change).graph_id (changed held change).commands
+
+-- The same, of the bytes of a response.
+pub record IsReadyFor (criteria : Criteria) (held : Held) (bytes : List ℕ) (taken : Taken) (change : Option Change) : Type 0 where
+  pub response : Response
+  pub read : IsResponseRead bytes held.graph_id (Ok response)
+  pub ready : IsReady criteria held response taken change
 
 -- What was added, and the run of all that is held with it; the entries before and behind share so many, and so many follow.
 pub record Reruns (policy : List PlacedItem) (below added : List Command) (olds : List Entry) (change : Change) (cut entries : ℕ) : Type 0 where
@@ -71,10 +79,7 @@ abbrev pub refused_by : ActFault → Refusal
 refused_by act_fault.NoMemory = refusal.NoMemory
 refused_by other = refusal.Act other
 
--- An action was done on what a replica holds, which is then still a replica's.
-pub record IsDone (policy : List PlacedItem) (digest : List ℕ) (basis : Basis) (old : Held) (action : Action) (before now : ℕ) (counts : Published) (new : Held) : Type 0 where
-  pub made : Made
-  pub acts : Acts basis old.rows action (Ok made) before now
-  pub counted : IsCounted policy old.commands made counts
-  pub same_held : new ≡ applied old made
-  pub replica : IsReplica policy digest new
+-- An action was done on what a replica holds, and these are the counts of it.
+abbrev pub IsDone : Basis → Held → Action → ℕ → ℕ → Published → Held → Type 0
+IsDone basis old action before now counts new =
+    (made : Made) × Acts basis old.rows action (Ok made) before now × IsCounted basis.policy old.commands made counts × (new ≡ applied old made)

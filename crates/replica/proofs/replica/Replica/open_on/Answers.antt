@@ -1,13 +1,66 @@
-use Rattle.std.proofs.Common.{ap, subst, sym}
-use Rattle.policy_meaning.specs.Typed.{AreTyped}
-use Rattle.policy_meaning.proofs.TypedFacts.{typed_none}
-use Rattle.replica.specs.Kept.{any_tag}
+use Rattle.std.proofs.Common.{IsTrue, sym, subst}
+use Rattle.braid_run.specs.Soundness.{Criteria}
+use Rattle.journal.specs.Calls.{journal_disk}
+use Rattle.journal.specs.declared.journal.Journal.{Journal}
+use Rattle.replica.specs.Disks.{OpensWhole, Sense}
+use Rattle.replica.specs.working.Openings.{IsLedTo, IsRefusedAt}
+use Rattle.replica.proofs.ReopenFacts.{answers_damaged, answers_led, answers_refused, backed_opened, opened_trusted, opens_whole}
 use Rattle.replica.proofs.replica.Replica.open_on.Goals as goal
+
+pub returns-in-Err-clause-opens : goal.returns-in-Err-clause-opens
+returns-in-Err-clause-opens g c = λ told.
+    let criteria : Criteria = record { policy = g.R.Runner.rules c.args.runner; digest = c.args.digest.now; good = g.E.Envelope.good } in
+    answers_refused criteria (g.D.Disk.content c.args.disk).reads (Journal g.row.D.Denot) c.in-Err.fault (c.in-Err.ensures.opens told)
+
+pub returns-in-Err-clause-crash : goal.returns-in-Err-clause-crash
+returns-in-Err-clause-crash g c = λ told honest.
+    let criteria : Criteria = record { policy = g.R.Runner.rules c.args.runner; digest = c.args.digest.now; good = g.E.Envelope.good } in
+    opens_whole c.images_read_as_one_thing.ensures criteria (g.D.Disk.content c.args.disk) (g.D.Disk.content c.in-Err.disk) (c.in-Err.ensures.any_moment told honest)
 
 pub invariant_of-result : goal.invariant_of-result
 invariant_of-result g c =
-    let policy = g.R.Runner.rules c.args.runner in
-    record {
-      typed = subst (λ rows. AreTyped policy rows) (sym (ap (λ held. held.rows) c.in-Ok.ensures.held)) (typed_none policy);
-      sound = c.in-Ok.ensures.sound (record { policy = policy; digest = c.args.digest.now; good = any_tag });
-    }
+    let sense : Sense _ = record { tells = g.D.Disk.tells; content = g.D.Disk.content; honest = g.D.Disk.honest } in
+    let criteria : Criteria = record { policy = g.R.Runner.rules c.args.runner; digest = c.args.digest.now; good = g.E.Envelope.good } in
+    let items = c.in-Ok.found.1.items in
+    let held = c.in-Ok-opened_state.state.held in
+    let led : IsLedTo criteria items held = subst (λ l. IsLedTo criteria l held) c.as_slice.ensures.value c.in-Ok-opened_state.ensures.led in
+    let honesty = c.in-Ok.ensures.cause.honesty in
+    (led.replica, backed_opened sense criteria held c.in-Ok.found.0 items c.in-Ok.ensures.listed c.in-Ok.ensures.works led (λ told honest. c.in-Ok.ensures.settled told (subst IsTrue honesty honest)))
+
+pub returns-in-Ok-opened_state-clause-opens : goal.returns-in-Ok-opened_state-clause-opens
+returns-in-Ok-opened_state-clause-opens g c = λ told.
+    let criteria : Criteria = record { policy = g.R.Runner.rules c.args.runner; digest = c.args.digest.now; good = g.E.Envelope.good } in
+    let items = c.in-Ok.found.1.items in
+    let held = c.in-Ok-opened_state.state.held in
+    let led : IsLedTo criteria items held = subst (λ l. IsLedTo criteria l held) c.as_slice.ensures.value c.in-Ok-opened_state.ensures.led in
+    answers_led criteria (g.D.Disk.content c.args.disk).reads items held (c.in-Ok.ensures.opens told) led
+
+pub returns-in-Ok-opened_state-clause-crash : goal.returns-in-Ok-opened_state-clause-crash
+returns-in-Ok-opened_state-clause-crash g c = λ told honest.
+    let criteria : Criteria = record { policy = g.R.Runner.rules c.args.runner; digest = c.args.digest.now; good = g.E.Envelope.good } in
+    opens_whole c.images_read_as_one_thing.ensures criteria (g.D.Disk.content c.args.disk) (g.D.Disk.content (journal_disk c.in-Ok.found.0)) (c.in-Ok.ensures.any_moment told honest)
+
+pub returns-in-Ok-opened_state-clause-trusted : goal.returns-in-Ok-opened_state-clause-trusted
+returns-in-Ok-opened_state-clause-trusted g c = λ told honest.
+    let sense : Sense _ = record { tells = g.D.Disk.tells; content = g.D.Disk.content; honest = g.D.Disk.honest } in
+    let criteria : Criteria = record { policy = g.R.Runner.rules c.args.runner; digest = c.args.digest.now; good = g.E.Envelope.good } in
+    let items = c.in-Ok.found.1.items in
+    let held = c.in-Ok-opened_state.state.held in
+    let led : IsLedTo criteria items held = subst (λ l. IsLedTo criteria l held) c.as_slice.ensures.value c.in-Ok-opened_state.ensures.led in
+    let honesty = c.in-Ok.ensures.cause.honesty in
+    let backed = backed_opened sense criteria held c.in-Ok.found.0 items c.in-Ok.ensures.listed c.in-Ok.ensures.works led (λ yes fair. c.in-Ok.ensures.settled yes (subst IsTrue honesty fair)) in
+    opened_trusted sense g.D.Disk.faults g.D.Disk.last_step criteria.policy criteria.digest c.author_of.result g.E.Envelope.good held c.in-Ok.found.0 c.journals_open.ensures.survives c.journals_open.ensures.opens led.sound backed told
+    (subst IsTrue (sym honesty) honest)
+
+pub returns-clause-opens : goal.returns-clause-opens
+returns-clause-opens g c = λ told.
+    let criteria : Criteria = record { policy = g.R.Runner.rules c.args.runner; digest = c.args.digest.now; good = g.E.Envelope.good } in
+    let cause = c.in-Err-opened_state.fault in
+    answers_damaged criteria (g.D.Disk.content c.args.disk).reads c.in-Ok.found.1.items cause (c.in-Ok.ensures.opens told)
+    (subst (λ l. IsRefusedAt criteria l cause) c.as_slice.ensures.value c.in-Err-opened_state.ensures.refused)
+
+pub returns-clause-crash : goal.returns-clause-crash
+returns-clause-crash g c = λ told honest.
+    let criteria : Criteria = record { policy = g.R.Runner.rules c.args.runner; digest = c.args.digest.now; good = g.E.Envelope.good } in
+    subst (λ d. OpensWhole criteria (g.D.Disk.content c.args.disk) (g.D.Disk.content d)) (sym c.into_disk.ensures)
+    (opens_whole c.images_read_as_one_thing.ensures criteria (g.D.Disk.content c.args.disk) (g.D.Disk.content (journal_disk c.in-Ok.found.0)) (c.in-Ok.ensures.any_moment told honest))

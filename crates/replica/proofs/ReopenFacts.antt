@@ -1,0 +1,447 @@
+-- A disk that is opened: what commits lead to is backed by the journal that was read, and what stays is still backed.
+use Rattle.std.proofs.Common.{◌≡◌, ◌⊎◌, inl, inr, ℕ, ◌+◌, ◌≤◌, Bool, false, IsTrue, List, [], ◌∷◌, ◌++◌, length, map, Option, Some, None, Result, Ok, Err, Vec, refl, sym, ap, subst, ◌∙◌, arith, length-append}
+use Rattle.std.specs.List.{AllByRecursion}
+use Rattle.std.specs.Option.{is_none}
+use Rattle.std.specs.declared.alloc.Global.{Global}
+use Rattle.braid_run.specs.Laws.{HasOneRun}
+use Rattle.braid_run.specs.RunOf.{IsRunOf}
+use Rattle.braid_run.specs.Soundness.{AreSound, Criteria, IsSound}
+use Rattle.braid_run.specs.States.{Held}
+use Rattle.command.specs.Closed.{IsClosed}
+use Rattle.command.specs.declared.command.Command.{Command}
+use Rattle.journal.specs.Calls.{failed_after, journal_disk, journal_failed, journal_outline}
+use Rattle.journal.specs.Commits.{IsCommitForm, command_count, gated, has_none}
+use Rattle.journal.specs.Images.{Damaged, Holds, OtherPolicy, ReadsAs}
+use Rattle.journal.specs.Journal.{AreOf, IsSettled, OpenWrites, Opens as JournalOpens, StaysSettled, WasOrReadsAlike}
+use Rattle.journal.specs.Outline.{Outline}
+use Rattle.journal.specs.declared.commit.Commit.{Commit}
+use Rattle.journal.specs.declared.commit.Commit.TheVariants.{Graph, Commands}
+use Rattle.journal.specs.declared.fault.OpenFault.{OpenFault}
+use Rattle.journal.specs.declared.fault.OpenFault.TheVariants as fault
+use Rattle.journal.specs.declared.journal.Journal.{Journal}
+use Rattle.journal.specs.declared.reopened.Reopened.{Reopened}
+use Rattle.outside.specs.Causes.{Rose}
+use Rattle.outside.specs.Crashes.{LeavesOnly, MayLeave}
+use Rattle.outside.specs.Disk.{Content, IsImage}
+use Rattle.outside.specs.declared.faults.DiskStep.{DiskStep}
+use Rattle.outside.proofs.Crashes.{weaker}
+use Rattle.policy_ast.specs.declared.policy.PlacedItem.{PlacedItem}
+use Rattle.replica.specs.Calls.{IsRefusedJournal, Restarts, StaysAtRestart, restart_opens}
+use Rattle.replica.specs.Disks.{AreSoundFronts, FailsWithDisk, IsTrusted, MayOpenTo, OpensAlike, OpensToOf, OpensWhole, Sense, Survives, Withstands}
+use Rattle.replica.specs.Fronts.{Admits, AnswersOpening, Front, IsDamaged, IsOfPolicy, Opening, Opens, OpensAs, OpensReading, behind_commit, behind_commits, front_of, no_front}
+use Rattle.replica.specs.Kept.{IsReplica, Kept, criteria_of, loose_of}
+use Rattle.replica.specs.declared.down.Down.{Down}
+use Rattle.replica.specs.declared.refusal.Refusal.{Refusal}
+use Rattle.replica.specs.declared.refusal.Refusal.TheVariants as refusal
+use Rattle.replica.specs.working.Backing.{IsBacked, IsHeldBy, LeadTo, ReadsLoose}
+use Rattle.replica.specs.working.Commits.{OpensSound, Parts, SurvivesSettled}
+use Rattle.replica.specs.working.Openings.{IsLedTo, IsRefusedAt}
+use Rattle.replica.specs.working.Reopenings.{EndsReopening, IsKeptOut, Reopens, fallen, refused_opening, reopened_front}
+use Rattle.replica.proofs.CallFacts.{kept_of, survives_now}
+use Rattle.replica.proofs.CommitFacts.{leaves_now}
+use Rattle.replica.proofs.Opens.{ReadOnce, opens_once, ungated}
+use Rattle.transaction.specs.Applying.{graph_named}
+
+-- ---- the front behind admitted commits
+
+pub admitted_front : (criteria : Criteria) (items : List (ℕ × Commit)) (front new : Front) → Admits criteria front items (Opens new) → behind_commits front (map (λ item. item.1) items) ≡ new
+admitted_front criteria [] front new is = let same : front ≡ new = cc in same
+admitted_front criteria (item ∷ items) front new (inl is) = admitted_front criteria items (behind_commit front item.1) new is.1
+admitted_front criteria (item ∷ items) front new (inr is) = absurd cc
+
+counted_behind : (front : Front) (commits : List Commit) → length (behind_commits front commits).commands ≡ length front.commands + command_count commits
+counted_behind front [] = omega arith
+counted_behind front (Graph id ∷ commits) = let rest = counted_behind (behind_commit front (Graph id)) commits in omega (arith, rest)
+counted_behind front (Commands list ∷ commits) =
+    let rest = counted_behind (behind_commit front (Commands list)) commits in let sum = length-append front.commands list in omega (arith, rest, sum)
+
+has_name : (id : Option (List ℕ)) (commits : List Commit) (held : List Command) → is_none id ≡ false → is_none (behind_commits (record { graph_id = id; commands = held }) commits).graph_id ≡ false
+has_name id [] held is = is
+has_name id (Graph own ∷ commits) held is = has_name (Some own) commits held refl
+has_name None (Commands list ∷ commits) held is = absurd cc
+has_name (Some own) (Commands list ∷ commits) held is = has_name (Some own) commits (held ++ list) refl
+
+fresh_behind : (items : List (ℕ × Commit)) → AllByRecursion (λ item. IsCommitForm item.1) items → has_none (map (λ item. item.1) items) ≡ is_none (behind_commits no_front (map (λ item. item.1) items)).graph_id
+fresh_behind [] forms = refl
+fresh_behind ((gate, Graph id) ∷ items) forms = sym (has_name (Some id) (map (λ item. item.1) items) [] refl)
+fresh_behind ((gate, Commands []) ∷ items) forms = let some = forms.0.0 in absurd (omega (arith, some))
+fresh_behind ((gate, Commands (c ∷ list)) ∷ items) forms = sym (has_name (graph_named None (c ∷ list)) (map (λ item. item.1) items) (c ∷ list) refl)
+
+-- ---- what was read is backed
+
+module _ {D : Type 0} (sense : Sense D) (criteria : Criteria) where
+  -- what a journal was opened with
+  abbrev pub IsRead : Journal D → List (ℕ × Commit) → Type 0
+  IsRead journal items =
+      IsTrue sense.tells → IsTrue (sense.honest (journal_disk journal)) → (commits : List Commit) × IsSettled (sense.content (journal_disk journal)) (journal_outline journal) criteria.digest commits × (items ≡ gated commits)
+
+  pub backed_opened : (held : Held) (journal : Journal D) (items : List (ℕ × Commit)) → AreOf (journal_outline journal) items → journal_failed journal ≡ false → IsLedTo criteria items held → IsRead journal items →
+      IsBacked sense criteria.digest held None journal
+  backed_opened held journal items are works led read = record {
+    commands = let counted = counted_behind no_front (map (λ item. item.1) items) in let same = ap (λ f. length f.commands) front in omega (arith, are.commands, counted, same);
+    fresh = are.fresh ∙ fresh_behind items are.forms ∙ ap (λ f. is_none f.graph_id) front;
+    works = λ up. works;
+    backed = λ told honest. let settled = read told honest in (settled.0, lead settled.0 settled.2, settled.1);
+  }
+    where
+      front : behind_commits no_front (map (λ item. item.1) items) ≡ front_of held
+      front = admitted_front criteria items no_front (front_of held) led.opens
+
+      lead : (commits : List Commit) → items ≡ gated commits → LeadTo commits held
+      lead commits same = ap (behind_commits no_front) (sym (ungated 38 commits) ∙ ap (map (λ item. item.1)) (sym same)) ∙ front
+
+-- ---- what stays is still backed
+
+module _ (once : ReadOnce) (survives : SurvivesSettled) (digest : List ℕ) (old new : Content) (outline : Outline) (held : Held) (reads : MayLeave old old.reads) (moments : LeavesOnly old new (WasOrReadsAlike digest old)) where
+  -- an image that reads as the old disk did
+  alike : (commits : List Commit) (loose : Option Commit) → ReadsLoose digest commits loose old.reads → (items : List (ℕ × Commit)) → ReadsAs digest old.reads (Holds items) → (image : List ℕ) →
+      ReadsAs digest image (Holds items) → ReadsLoose digest commits loose image
+  alike commits loose (inl is) items was image now = inl (subst (ReadsAs digest image) (once digest old.reads (Holds items) (Holds (gated commits)) was is) now)
+  alike commits loose (inr (commit, same, is)) items was image now =
+      inr (commit, same, subst (ReadsAs digest image) (once digest old.reads (Holds items) (Holds (gated (commits ++ commit ∷ []))) was is) now)
+
+  loosely : (commits : List Commit) (loose : Option Commit) → ((image : List ℕ) → MayLeave old image → ReadsLoose digest commits loose image) → (image : List ℕ) → MayLeave new image → ReadsLoose digest commits loose image
+  loosely commits loose was image may =
+      elim (leaves_now old new (WasOrReadsAlike digest old) moments image may) [
+        | inl before ↦ was image before
+        | inr read ↦ alike commits loose (was old.reads reads) read.0 read.1 image read.2
+      ]
+
+  -- the replica falls, or it stays as it was
+  pub held_fallen : (down : Option Down) (step : DiskStep) → IsHeldBy old outline digest held down → IsHeldBy new outline digest held (Some (record { step = step; loose = loose_of down }))
+  held_fallen None step is = (is.0, is.1, loosely is.0 None (λ image may. inl (survives old outline digest is.0 is.2 image may)))
+  held_fallen (Some down) step is = (is.0, is.1, loosely is.0 down.loose is.2)
+
+  pub held_still : StaysSettled old new → (down : Option Down) → IsHeldBy old outline digest held down → IsHeldBy new outline digest held down
+  held_still stays None is = (is.0, is.1, stays outline digest is.0 is.2)
+  held_still stays (Some down) is = (is.0, is.1, loosely is.0 down.loose is.2)
+
+-- ---- openings
+
+module _ (criteria : Criteria) (reads : List ℕ) where
+  -- a journal that is refused
+  pub answers_refused : (X : Type 0) (why : OpenFault) → JournalOpens {X = X} criteria.digest reads (Err why) → AnswersOpening criteria reads (Err why)
+  answers_refused X (fault.Damaged offset) is = record { reading = Damaged offset; reads = is; opens = refl }
+  answers_refused X (fault.OtherPolicy other) is = record { reading = OtherPolicy other; reads = is; opens = refl }
+  answers_refused X (fault.DiskFault step) is = tt
+  answers_refused X fault.NoMemory is = tt
+
+  -- what its commits lead to
+  pub answers_led : (items : List (ℕ × Commit)) (held : Held) → ReadsAs criteria.digest reads (Holds items) → IsLedTo criteria items held → AnswersOpening criteria reads (Ok (front_of held))
+  answers_led items held is led = record { reading = Holds items; reads = is; opens = led.opens }
+
+  -- commits that are refused
+  pub answers_damaged : (items : List (ℕ × Commit)) (why : OpenFault) → ReadsAs criteria.digest reads (Holds items) → IsRefusedAt criteria items why → AnswersOpening criteria reads (Err why)
+  answers_damaged items why is (inl lacks) = subst (λ w. AnswersOpening criteria reads (Err w)) (sym lacks) tt
+  answers_damaged items why is (inr (offset, same, damaged)) = subst (λ w. AnswersOpening criteria reads (Err w)) (sym same) (record { reading = Holds items; reads = is; opens = damaged })
+
+-- an image that reads as the disk did opens to the same
+pub opens_alike : ReadOnce → (criteria : Criteria) (reads image : List ℕ) (items : List (ℕ × Commit)) → ReadsAs criteria.digest reads (Holds items) → ReadsAs criteria.digest image (Holds items) → OpensAlike criteria reads image
+opens_alike once criteria reads image items was now = λ opening is.
+    record { reading = Holds items; reads = now; opens = subst (λ r. OpensReading criteria r opening) (once criteria.digest reads is.reading (Holds items) is.reads was) is.opens }
+
+pub opens_whole : ReadOnce → (criteria : Criteria) (old new : Content) → LeavesOnly old new (WasOrReadsAlike criteria.digest old) → OpensWhole criteria old new
+opens_whole once criteria old new only = weaker old new (WasOrReadsAlike criteria.digest old) (λ image. MayLeave old image ⊎ OpensAlike criteria old.reads image) by only
+  where
+    by : (image : List ℕ) → WasOrReadsAlike criteria.digest old image → MayLeave old image ⊎ OpensAlike criteria old.reads image
+    by image (inl before) = inl before
+    by image (inr read) = inr (opens_alike once criteria old.reads image read.0 read.1 read.2)
+
+-- ---- a restart, part by part
+
+module _ {D : Type 0} (sense : Sense D) (faults : D → ℕ) (last_step : D → Option DiskStep) (criteria : Criteria) (once : ReadOnce) (survives : SurvivesSettled) (old : Parts D) (journal : Journal D)
+    (reads : IsTrue sense.tells → IsTrue (sense.honest (journal_disk old.journal)) → MayLeave (sense.content (journal_disk old.journal)) (sense.content (journal_disk old.journal)).reads)
+    (moments : IsTrue sense.tells → IsTrue (sense.honest (journal_disk old.journal)) →
+    LeavesOnly (sense.content (journal_disk old.journal)) (sense.content (journal_disk journal)) (WasOrReadsAlike criteria.digest (sense.content (journal_disk old.journal)))) where
+  abbrev before : Content
+  before = sense.content (journal_disk old.journal)
+
+  abbrev after : Content
+  after = sense.content (journal_disk journal)
+
+  abbrev Found : Type 0
+  Found = Reopened × Vec (ℕ × Commit) Global
+
+  module _ (backed : IsBacked sense criteria.digest old.held old.down old.journal) (stays : IsTrue sense.tells → IsTrue (sense.honest (journal_disk old.journal)) → StaysSettled before after)
+      (outlined : journal_outline journal ≡ journal_outline old.journal) (honesty : sense.honest (journal_disk journal) ≡ sense.honest (journal_disk old.journal)) where
+    backed_still : journal_failed journal ≡ journal_failed old.journal → IsBacked sense criteria.digest old.held old.down journal
+    backed_still failed = record {
+      commands = ap (λ o. o.commands) outlined ∙ backed.commands;
+      fresh = ap (λ o. o.is_fresh) outlined ∙ backed.fresh;
+      works = λ up. failed ∙ backed.works up;
+      backed = λ told honest.
+          let was = subst IsTrue honesty honest in
+          subst (λ o. IsHeldBy after o criteria.digest old.held old.down) (sym outlined)
+          (held_still once survives criteria.digest before after (journal_outline old.journal) old.held (reads told was) (moments told was) (stays told was) old.down (backed.backed told was));
+    }
+
+    backed_fallen : (step : DiskStep) → IsBacked sense criteria.digest old.held (Some (record { step = step; loose = loose_of old.down })) journal
+    backed_fallen step = record {
+      commands = ap (λ o. o.commands) outlined ∙ backed.commands;
+      fresh = ap (λ o. o.is_fresh) outlined ∙ backed.fresh;
+      works = λ up. absurd cc;
+      backed = λ told honest.
+          let was = subst IsTrue honesty honest in
+          subst (λ o. IsHeldBy after o criteria.digest old.held (Some (record { step = step; loose = loose_of old.down }))) (sym outlined)
+          (held_fallen once survives criteria.digest before after (journal_outline old.journal) old.held (reads told was) (moments told was) old.down step (backed.backed told was));
+    }
+
+    -- all stays
+    kept_out : (down : Option Down) (why : Refusal) → down ≡ old.down → IsKeptOut why → journal_failed journal ≡ journal_failed old.journal → faults (journal_disk old.journal) ≤ faults (journal_disk journal) →
+        (IsTrue sense.tells → AnswersOpening criteria before.reads (reopened_front {T = ℕ} (Err why) old.held)) →
+        Reopens criteria sense faults last_step old (Err why) (record { held = old.held; down = down; journal = journal })
+    kept_out down why same out failed later answers = record {
+      ends = (refl, outlined, inl (out, same));
+      backed = subst (λ d. IsBacked sense criteria.digest old.held d journal) (sym same) (backed_still failed);
+      opens = answers;
+      moments = moments;
+      honest = honesty;
+      disk = record { later = later; cause = λ step fails. absurd (no_fault why out step fails) };
+    }
+      where
+        no_fault : (why : Refusal) → IsKeptOut why → (step : DiskStep) → ◌≡◌ {A = Result ℕ Refusal} (Err why) (Err (refusal.DiskFault step)) → ⊥
+        no_fault why (inl lacks) step fails = let both : ◌≡◌ {A = Result ℕ Refusal} (Err refusal.NoMemory) (Err (refusal.DiskFault step)) = ap Err (sym lacks) ∙ fails in absurd cc
+        no_fault why (inr (cause, is, names)) step fails = let both : ◌≡◌ {A = Result ℕ Refusal} (Err (refusal.Journal cause)) (Err (refusal.DiskFault step)) = ap Err (sym names) ∙ fails in absurd cc
+
+    -- the journal is refused
+    pub reopens_refused : (fault : OpenFault) (down : Option Down) (why : Refusal) → why ≡ refused_opening fault → down ≡ fallen old.down fault →
+        journal_failed journal ≡ failed_after {X = Found} (Err fault) (journal_failed old.journal) → (IsTrue sense.tells → JournalOpens {X = Reopened} criteria.digest before.reads (Err fault)) →
+        OpenWrites {X = Found} sense.honest faults last_step (journal_disk old.journal) (journal_disk journal) (Err fault) →
+        Reopens criteria sense faults last_step old (Err why) (record { held = old.held; down = down; journal = journal })
+    reopens_refused (fault.Damaged offset) down why is falls failed opens writes =
+        kept_out down why falls (inr (fault.Damaged offset, tt, is)) failed writes.later
+        (λ told. subst (λ w. AnswersOpening criteria before.reads (reopened_front {T = ℕ} (Err w) old.held)) (sym is) (answers_refused criteria before.reads Reopened (fault.Damaged offset) (opens told)))
+    reopens_refused (fault.OtherPolicy digest) down why is falls failed opens writes =
+        kept_out down why falls (inr (fault.OtherPolicy digest, tt, is)) failed writes.later
+        (λ told. subst (λ w. AnswersOpening criteria before.reads (reopened_front {T = ℕ} (Err w) old.held)) (sym is) (answers_refused criteria before.reads Reopened (fault.OtherPolicy digest) (opens told)))
+    reopens_refused (fault.DiskFault step) down why is falls failed opens writes = record {
+      ends = (refl, outlined, inr (step, is, falls));
+      backed = subst (λ d. IsBacked sense criteria.digest old.held d journal) (sym falls) (backed_fallen step);
+      opens = λ told. subst (λ w. AnswersOpening criteria before.reads (reopened_front {T = ℕ} (Err w) old.held)) (sym is) tt;
+      moments = moments;
+      honest = honesty;
+      disk = record {
+        later = writes.later;
+        cause = λ other fails.
+            let both : ◌≡◌ {A = Result ℕ Refusal} (Err (refusal.DiskFault step)) (Err (refusal.DiskFault other)) = ap Err (sym is) ∙ fails in
+            let same : step ≡ other = cc in
+            subst (λ x. Rose (faults (journal_disk old.journal)) (faults (journal_disk journal)) × (last_step (journal_disk journal) ≡ Some x)) same writes.cause;
+      };
+    }
+    reopens_refused fault.NoMemory down why is falls failed opens writes =
+        kept_out down why falls (inl is) failed writes.later (λ told. subst (λ w. AnswersOpening criteria before.reads (reopened_front {T = ℕ} (Err w) old.held)) (sym is) tt)
+
+    -- a commit is
+    pub reopens_damaged : (items : List (ℕ × Commit)) (cause : OpenFault) (down : Option Down) (why : Refusal) → IsRefusedAt criteria items cause → why ≡ refused_opening cause → down ≡ fallen old.down cause →
+        journal_failed journal ≡ journal_failed old.journal → (IsTrue sense.tells → ReadsAs criteria.digest before.reads (Holds items)) → faults (journal_disk old.journal) ≤ faults (journal_disk journal) →
+        Reopens criteria sense faults last_step old (Err why) (record { held = old.held; down = down; journal = journal })
+    reopens_damaged items cause down why (inl lacks) is falls failed holds later =
+        let no_memory : why ≡ refusal.NoMemory = is ∙ ap refused_opening lacks in
+        kept_out down why (falls ∙ ap (fallen old.down) lacks) (inl no_memory) failed later
+        (λ told. subst (λ w. AnswersOpening criteria before.reads (reopened_front {T = ℕ} (Err w) old.held)) (sym no_memory) tt)
+    reopens_damaged items cause down why (inr (offset, same, damaged)) is falls failed holds later =
+        let names : why ≡ refusal.Journal (fault.Damaged offset) = is ∙ ap refused_opening same in
+        kept_out down why (falls ∙ ap (fallen old.down) same) (inr (fault.Damaged offset, tt, names)) failed later
+        (λ told. subst (λ w. AnswersOpening criteria before.reads (reopened_front {T = ℕ} (Err w) old.held)) (sym names)
+        (answers_damaged criteria before.reads items (fault.Damaged offset) (holds told) (inr (offset, refl, damaged))))
+
+  -- it is up again
+  pub reopens_led : (items : List (ℕ × Commit)) (held : Held) (adopted : Journal D) (count : ℕ) → journal_disk adopted ≡ journal_disk journal → AreOf (journal_outline adopted) items → journal_failed adopted ≡ false →
+      IsLedTo criteria items held → count ≡ length held.commands → sense.honest (journal_disk journal) ≡ sense.honest (journal_disk old.journal) →
+      (IsTrue sense.tells → ReadsAs criteria.digest before.reads (Holds items)) →
+      (IsTrue sense.tells → IsTrue (sense.honest (journal_disk old.journal)) → (commits : List Commit) × IsSettled after (journal_outline adopted) criteria.digest commits × (items ≡ gated commits)) →
+      faults (journal_disk old.journal) ≤ faults (journal_disk journal) → Reopens criteria sense faults last_step old (Ok count) (record { held = held; down = None; journal = adopted })
+  reopens_led items held adopted count same are works led counts honesty holds settled later = record {
+    ends = (counts, led.sound, led.replica, refl);
+    backed = backed_opened sense criteria held adopted items are works led read;
+    opens = λ told. answers_led criteria before.reads items held (holds told) led;
+    moments = λ told honest. subst (λ (d : D). LeavesOnly before (sense.content d) (WasOrReadsAlike criteria.digest before)) (sym same) (moments told honest);
+    honest = ap sense.honest same ∙ honesty;
+    disk = record { later = subst (λ d. faults (journal_disk old.journal) ≤ faults d) (sym same) later; cause = λ step fails. absurd cc };
+  }
+    where
+      read : IsRead sense criteria adopted items
+      read told honest =
+          let was = subst IsTrue honesty (subst (λ d. IsTrue (sense.honest d)) same honest) in
+          let found = settled told was in
+          (found.0, subst (λ d. IsSettled (sense.content d) (journal_outline adopted) criteria.digest found.0) (sym same) found.1, found.2)
+
+-- ---- an opening, as contracts say it
+
+module _ {D : Type 0} (sense : Sense D) (faults : D → ℕ) (last_step : D → Option DiskStep) (policy : List PlacedItem) (digest author : List ℕ) (good : List ℕ → List ℕ → List ℕ → Bool) (held : Held)
+    (journal : Journal D) where
+  abbrev opened_parts : Parts D
+  opened_parts = record { held = held; down = None; journal = journal }
+
+  pub opened_trusted : SurvivesSettled → OpensSound → IsSound (record { policy = policy; digest = digest; good = good }) held → IsBacked sense digest held None journal → IsTrue sense.tells →
+      IsTrue (sense.honest (journal_disk journal)) → IsTrusted good sense (kept_of policy digest author opened_parts) × Survives good sense (kept_of policy digest author opened_parts)
+  opened_trusted survives opens sound backed told honest = (trusted, survives_now sense faults last_step policy digest author survives opens good opened_parts backed trusted)
+    where
+      fronts : AreSoundFronts good (kept_of policy digest author opened_parts)
+      fronts front (inl same) = subst (λ (f : Front). AreSound (record { policy = policy; digest = digest; good = good }) f.graph_id f.commands) (sym same) sound.commands
+      fronts front (inr (commit, loose, same)) = absurd cc
+
+      trusted : IsTrusted good sense (kept_of policy digest author opened_parts)
+      trusted = record { tells = told; honest = honest; sound = fronts }
+
+-- ---- a restart, as contracts say it
+
+module _ {D : Type 0} (sense : Sense D) (faults : D → ℕ) (last_step : D → Option DiskStep) (policy : List PlacedItem) (digest author : List ℕ) (good : List ℕ → List ℕ → List ℕ → Bool)
+    (old : Parts D) (result : Result ℕ Refusal) (new : Parts D) where
+  abbrev pub judged_by : Criteria
+  judged_by = record { policy = policy; digest = digest; good = good }
+
+  abbrev pub was : Kept D
+  was = kept_of policy digest author old
+
+  abbrev pub is : Kept D
+  is = kept_of policy digest author new
+
+  IsSoundFront : Front → Type 0
+  IsSoundFront front = AreSound judged_by front.graph_id front.commands
+
+  module _ (reopens : Reopens judged_by sense faults last_step old result new) where
+    pub restarts : Restarts was result is
+    restarts = by result reopens.ends
+      where
+        by : (r : Result ℕ Refusal) → EndsReopening judged_by old r new → Restarts was r is
+        by (Ok count) (counts, sound, replica, up) = (new.held, counts, sound.run, record { same = ap (λ d. record is { down = d }) up })
+        by (Err why) (same, outlined, inl (out, stays)) =
+            inl (out, ap (λ h. record is { held = h }) same ∙ ap (λ d. record is { held = old.held; down = d }) stays ∙ ap (λ o. record is { held = old.held; down = old.down; outline = o }) outlined)
+        by (Err why) (same, outlined, inr (step, fails, falls)) =
+            inr (
+              step,
+              fails,
+              ap (λ h. record is { held = h }) same
+                  ∙ ap (λ d. record is { held = old.held; down = d }) falls
+                  ∙ ap (λ o. record is { held = old.held; down = Some (record { step = step; loose = loose_of old.down }); outline = o }) outlined,
+            )
+
+    pub restart_answers : IsTrue sense.tells → AnswersOpening judged_by (sense.content was.disk).reads (restart_opens result is)
+    restart_answers told = by result (reopens.opens told)
+      where
+        by : (r : Result ℕ Refusal) → AnswersOpening judged_by (sense.content was.disk).reads (reopened_front r new.held) → AnswersOpening judged_by (sense.content was.disk).reads (restart_opens r is)
+        by (Ok count) answers = answers
+        by (Err why) answers = answers
+
+    -- what it may open to stays sound
+    pub restart_sound : AreSoundFronts good was → AreSoundFronts good is
+    restart_sound sound = by result reopens.ends
+      where
+        fallen : (r : Option Commit) → r ≡ loose_of old.down → (front : Front) → (front ≡ front_of new.held) ⊎ ((commit : Commit) × (r ≡ Some commit) × (front ≡ behind_commit (front_of new.held) commit)) → new.held ≡ old.held →
+            AreSound judged_by front.graph_id front.commands
+        fallen r loose front (inl same) held = sound front (inl (same ∙ ap front_of held))
+        fallen r loose front (inr (commit, there, same)) held = sound front (inr (commit, sym loose ∙ there, same ∙ ap (λ h. behind_commit (front_of h) commit) held))
+
+        by : (r : Result ℕ Refusal) → EndsReopening judged_by old r new → AreSoundFronts good is
+        by (Ok count) (counts, now, replica, up) front (inl same) = subst (λ (f : Front). AreSound judged_by f.graph_id f.commands) (sym same) now.commands
+        by (Ok count) (counts, now, replica, up) front (inr (commit, loose, same)) = let none : None ≡ Some commit = ap loose_of (sym up) ∙ loose in absurd cc
+        by (Err why) (same, outlined, inl (out, stays)) front may = fallen (loose_of new.down) (ap loose_of stays) front may same
+        by (Err why) (same, outlined, inr (step, fails, falls)) front may = fallen (loose_of new.down) (ap loose_of falls) front may same
+
+    module _ (once : ReadOnce) (survives : SurvivesSettled) (opens : OpensSound) (backed : IsBacked sense digest old.held old.down old.journal) (trusted : IsTrusted good sense was)
+        (reads : IsImage (sense.content was.disk).now (sense.content was.disk).reads) where
+      -- what its disk read opens to what it may open to
+      read_opens : OpensToOf good sense was (sense.content was.disk).reads
+      read_opens = survives_now sense faults last_step policy digest author survives opens good old backed trusted (sense.content was.disk).reads reads
+
+      -- so nothing is refused, and what is held is that
+      pub restart_stays : ((cs : List Command) → IsClosed cs → HasOneRun policy cs) → IsReplica policy digest old.held → StaysAtRestart was result is
+      restart_stays runs replica = by result reopens.ends (reopens.opens trusted.tells)
+        where
+          same_front : (front : Front) → OpensAs judged_by (sense.content was.disk).reads (Opens front) → front ≡ read_opens.0
+          same_front front is_front = let same : Opens front ≡ Opens read_opens.0 = opens_once once judged_by (sense.content was.disk).reads (Opens front) (Opens read_opens.0) is_front read_opens.2 in cc
+
+          same_held : front_of new.held ≡ front_of old.held → IsSound judged_by new.held → new.held ≡ old.held
+          same_held same now = joined new.held.graph_id new.held.commands new.held.rows new.held.entries (ap (λ f. f.graph_id) same) cs runs_same.0 runs_same.1
+            where
+              cs : new.held.commands ≡ old.held.commands
+              cs = ap (λ f. f.commands) same
+
+              runs_same : (new.held.rows ≡ old.held.rows) × (new.held.entries ≡ old.held.entries)
+              runs_same =
+                  (runs old.held.commands replica.sound.commands.standing.closed).one new.held.rows old.held.rows new.held.entries old.held.entries
+                  (subst (λ l. IsRunOf policy l new.held.rows new.held.entries) cs now.run) replica.sound.run
+
+              joined : (id : Option (List ℕ)) (l : List Command) (rows : List _) (entries : List _) → id ≡ old.held.graph_id → l ≡ old.held.commands → rows ≡ old.held.rows → entries ≡ old.held.entries →
+                  record { graph_id = id; commands = l; rows = rows; entries = entries } ≡ old.held
+              joined id l rows entries a b c d =
+                  ap (λ x. record { graph_id = x; commands = l; rows = rows; entries = entries }) a
+                  ∙ ap (λ x. record { graph_id = old.held.graph_id; commands = x; rows = rows; entries = entries }) b
+                  ∙ ap (λ x. record { graph_id = old.held.graph_id; commands = old.held.commands; rows = x; entries = entries }) c
+                  ∙ ap (λ x. record { graph_id = old.held.graph_id; commands = old.held.commands; rows = old.held.rows; entries = x }) d
+
+          may : (front : Front) → front ≡ front_of new.held → MayOpenTo was front → IsSound judged_by new.held →
+              (new.held ≡ old.held) ⊎ ((commit : Commit) × (loose_of old.down ≡ Some commit) × (front_of new.held ≡ behind_commit (front_of old.held) commit))
+          may front here (inl same) now = inl (same_held (sym here ∙ same) now)
+          may front here (inr (commit, loose, same)) now = inr (commit, loose, sym here ∙ same)
+
+          damaged : (opening : Opening) → OpensAs judged_by (sense.content was.disk).reads opening → (Opens read_opens.0 ≡ opening → ⊥) → ⊥
+          damaged opening it differs = differs (opens_once once judged_by (sense.content was.disk).reads (Opens read_opens.0) opening read_opens.2 it)
+
+          refused : (cause : OpenFault) → IsRefusedJournal cause → AnswersOpening judged_by (sense.content was.disk).reads (Err cause) → ⊥
+          refused (fault.Damaged offset) is_refused it = damaged (IsDamaged offset) it (λ same. absurd cc)
+          refused (fault.OtherPolicy other) is_refused it = damaged (IsOfPolicy other) it (λ same. absurd cc)
+          refused (fault.DiskFault step) is_refused it = absurd is_refused
+          refused fault.NoMemory is_refused it = absurd is_refused
+
+          by : (r : Result ℕ Refusal) → EndsReopening judged_by old r new → AnswersOpening judged_by (sense.content was.disk).reads (reopened_front r new.held) → StaysAtRestart was r is
+          by (Ok count) (counts, now, one, up) answers = may read_opens.0 (sym (same_front (front_of new.held) answers)) read_opens.1 now
+          by (Err why) (same, outlined, inl (inl lacks, stays)) answers = λ cause told. let both : refusal.NoMemory ≡ refusal.Journal cause = sym lacks ∙ told in absurd cc
+          by (Err why) (same, outlined, inl (inr (own, is_refused, names), stays)) answers =
+              absurd (refused own is_refused (subst (λ w. AnswersOpening judged_by (sense.content was.disk).reads (reopened_front {T = ℕ} (Err w) new.held)) names answers))
+          by (Err why) (same, outlined, inr (step, fails, falls)) answers = λ cause told. let both : refusal.DiskFault step ≡ refusal.Journal cause = sym fails ∙ told in absurd cc
+
+      pub restart_withstands : Withstands good sense was is
+      restart_withstands = record {
+        trusted = after;
+        moments =
+            weaker (sense.content was.disk) (sense.content is.disk) (WasOrReadsAlike digest (sense.content was.disk)) (λ image. OpensToOf good sense was image ⊎ OpensToOf good sense is image) all
+            (reopens.moments trusted.tells trusted.honest);
+        survives = survives_now sense faults last_step policy digest author survives opens good new reopens.backed after;
+      }
+        where
+          after : IsTrusted good sense is
+          after = record { tells = trusted.tells; honest = subst IsTrue (sym reopens.honest) trusted.honest; sound = restart_sound trusted.sound }
+
+          all : (image : List ℕ) → WasOrReadsAlike digest (sense.content was.disk) image → OpensToOf good sense was image ⊎ OpensToOf good sense is image
+          all image (inl before) = inl (survives_now sense faults last_step policy digest author survives opens good old backed trusted image before)
+          all image (inr read) =
+              let alike = opens_alike once judged_by (sense.content was.disk).reads image read.0 read.1 read.2 in
+              inl (read_opens.0, read_opens.1, alike (Opens read_opens.0) read_opens.2)
+
+-- all that contracts say of a restart
+pub record Restarted {D : Type 0} (sense : Sense D) (faults : D → ℕ) (last_step : D → Option DiskStep) (good : List ℕ → List ℕ → List ℕ → Bool) (old : Kept D) (result : Result ℕ Refusal) (new : Kept D) : Type 0 where
+  pub step : Restarts old result new
+  pub opens : IsTrue sense.tells → AnswersOpening (criteria_of good old) (sense.content old.disk).reads (restart_opens result new)
+  pub stays : IsTrusted good sense old → StaysAtRestart old result new
+  pub sound : AreSoundFronts good old → AreSoundFronts good new
+  pub crash : IsTrusted good sense old → Withstands good sense old new
+  pub honest : sense.honest new.disk ≡ sense.honest old.disk
+  pub disk : FailsWithDisk faults last_step old.disk new.disk result
+
+module _ {D : Type 0} (sense : Sense D) (faults : D → ℕ) (last_step : D → Option DiskStep) (policy : List PlacedItem) (digest author : List ℕ) (good : List ℕ → List ℕ → List ℕ → Bool)
+    (old : Parts D) (result : Result ℕ Refusal) (new : Parts D) where
+  pub restarted : ReadOnce → SurvivesSettled → OpensSound → ((cs : List Command) → IsClosed cs → HasOneRun policy cs) →
+      (IsTrue sense.tells → IsTrue (sense.honest (journal_disk old.journal)) → IsImage (sense.content (journal_disk old.journal)).now (sense.content (journal_disk old.journal)).reads) →
+      IsReplica policy digest old.held → IsBacked sense digest old.held old.down old.journal → Reopens (record { policy = policy; digest = digest; good = good }) sense faults last_step old result new →
+      (k : Kept D) → kept_of policy digest author old ≡ k → Restarted sense faults last_step good k result (kept_of policy digest author new)
+  restarted once survives opens runs reads replica backed reopens k same =
+      subst (λ x. Restarted sense faults last_step good x result (kept_of policy digest author new)) same (record {
+        step = restarts sense faults last_step policy digest author good old result new reopens;
+        opens = restart_answers sense faults last_step policy digest author good old result new reopens;
+        stays = λ trusted. restart_stays sense faults last_step policy digest author good old result new reopens once survives opens backed trusted (reads trusted.tells trusted.honest) runs replica;
+        sound = restart_sound sense faults last_step policy digest author good old result new reopens;
+        crash = λ trusted. restart_withstands sense faults last_step policy digest author good old result new reopens once survives opens backed trusted (reads trusted.tells trusted.honest);
+        honest = reopens.honest;
+        disk = reopens.disk;
+      })
+
+-- the replica is still one
+pub restart_keeps : {D : Type 0} (sense : Sense D) (faults : D → ℕ) (last_step : D → Option DiskStep) (criteria : Criteria) (old : Parts D) (result : Result ℕ Refusal) (new : Parts D) →
+    IsReplica criteria.policy criteria.digest old.held → Reopens criteria sense faults last_step old result new → IsReplica criteria.policy criteria.digest new.held × IsBacked sense criteria.digest new.held new.down new.journal
+restart_keeps sense faults last_step criteria old result new replica reopens = (by result reopens.ends, reopens.backed)
+  where
+    by : (r : Result ℕ Refusal) → EndsReopening criteria old r new → IsReplica criteria.policy criteria.digest new.held
+    by (Ok count) (counts, sound, now, up) = now
+    by (Err why) (same, outlined, rest) = subst (IsReplica criteria.policy criteria.digest) (sym same) replica
