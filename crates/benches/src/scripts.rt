@@ -2,7 +2,8 @@
 use script::{ScriptFault, read_script};
 use std::io;
 
-pub const SAMPLE: &str = "replica a\ninit a begin()\nact a put(P { a: Some(1), b: 0x00 })\nfacts a\n";
+pub const SAMPLE: &str =
+    "replica a\ninit a begin()\nact a put(P { a: Some(1), b: 0x00 })\nfacts a\n";
 
 /// How many lines a script has, or which is refused.
 pub fn report_script(rt: &HostRuntime, script: &[u8]) -> io::Result<()> {

@@ -3,13 +3,13 @@ ghost use denote.Param.Send.{IsSync};
 
 use crate::calls::usage;
 use crate::shares::share_of;
-use std::alloc::Global;
-use std::sync::Wait;
-use std::thread::Threads;
-use std::io;
-use turn_lock::{NoMemory, TurnLock};
 use samples::callers::{Work, four, make_turns};
 use samples::tally::Tally;
+use std::alloc::Global;
+use std::io;
+use std::sync::Wait;
+use std::thread::Threads;
+use turn_lock::{NoMemory, TurnLock};
 
 #[derive(Clone, Copy)]
 enum Callers {

@@ -6,8 +6,8 @@ use crate::player::DIGEST;
 use base_bytes::{Bytes, Id, NoMemory};
 use command::{Command, Graph, from_bytes};
 use graph_set::ListGraph;
-use samples::made::{append, id_at};
 use outside::{Envelope, TagEnvelope};
+use samples::made::{append, id_at};
 use std::alloc::Global;
 
 /// A field of a payload.

@@ -1,7 +1,7 @@
-use samples::made::{Step, append, command, id_at, made};
 use base_bytes::{Id, NoMemory};
 use command::Graph;
 use graph_set::ListGraph;
+use samples::made::{Step, append, command, id_at, made};
 use std::alloc::Global;
 use std::process::Abort;
 use std::test::*;

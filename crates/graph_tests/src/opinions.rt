@@ -1,9 +1,9 @@
-use samples::made::{braided, made};
 use crate::plain::plain_braid;
-use samples::writers::by_writers;
 use base_bytes::NoMemory;
 use command::Graph;
 use graph_set::ListGraph;
+use samples::made::{braided, made};
+use samples::writers::by_writers;
 use std::alloc::Global;
 use std::process::Abort;
 use std::test::*;

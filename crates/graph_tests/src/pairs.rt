@@ -1,7 +1,7 @@
 // Pairs of graphs that hold the same commands but for merges, and so have one order of commands, at other places. The payloads
 // name the commands. The orders are worked out by hand from the rule; where priorities are equal, by ids that another program made.
-use samples::made::Step;
 use crate::rows::Row;
+use samples::made::Step;
 
 pub const ONE_ORDER: Row = Row {
     name: "one stored order",

@@ -1,7 +1,7 @@
 // Small graphs, with the places of their commands in the order of the braid, worked out by hand from the rule. Where priorities
 // are equal, the order goes by ids that another program made.
-use samples::made::Step;
 use crate::pairs::{ONE_JOIN, ONE_ORDER, OTHER_JOIN, OTHER_ORDER};
+use samples::made::Step;
 
 #[derive(Clone, Copy)]
 pub struct Row {

@@ -1,9 +1,9 @@
-use samples::made::{braided, id_at, made};
 use crate::pairs::{PAIRS, Pair};
 use crate::rows::{ROWS, Row};
 use base_bytes::{Id, NoMemory};
 use command::Graph;
 use graph_set::ListGraph;
+use samples::made::{braided, id_at, made};
 use std::alloc::Global;
 use std::process::Abort;
 use std::test::*;

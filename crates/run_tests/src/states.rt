@@ -4,8 +4,8 @@ use base_bytes::{Id, NoMemory};
 use braid_run::{Entries, Entry, Outcome, Ran, State};
 use command::{Graph, id_of};
 use fact_store::{FactBase, Facts};
-use samples::made::{Step, command};
 use policy_meaning::Effects;
+use samples::made::{Step, command};
 use std::alloc::Global;
 use std::test::*;
 
