@@ -1,5 +1,5 @@
 -- What was committed opens to what was held: the commands of a sound list are added, one after another.
-use Rattle.std.proofs.Common.{◌≡◌, ℕ, ◌+◌, ◌≤◌, ◌<◌, ◌⊎◌, inl, inr, false, true, List, [], ◌∷◌, ◌++◌, length, map, Option, Some, None, refl, sym, ap, subst, ◌∙◌, arith, append_assoc, append-nil, length-append}
+use Rattle.std.proofs.Common.{◌≡◌, ℕ, ◌≤◌, inl, inr, false, true, List, [], ◌∷◌, ◌++◌, length, map, Option, Some, refl, sym, ap, subst, ◌∙◌, arith, append_assoc, append-nil, length-append}
 use Rattle.std.specs.List.{Contains}
 use Rattle.std.proofs.lemmas.List.Elements.{Contains-append_left}
 use Rattle.accept.specs.Admission.{IsAdmission}
@@ -13,9 +13,9 @@ use Rattle.braid_run.specs.Places.{IsBehind}
 use Rattle.braid_run.specs.Soundness.{AreSound, Criteria}
 use Rattle.command.specs.Ancestors.{Ancestor}
 use Rattle.command.specs.Ancestors.Ancestor.{Parent, Further}
-use Rattle.command.specs.Closed.{IsClosed, IsHeld, IsNext, max_commands}
+use Rattle.command.specs.Closed.{IsClosed, IsNext, max_commands}
 use Rattle.command.specs.Each.{EachAfter}
-use Rattle.command.specs.Kinds.{is_finalize, parents_of}
+use Rattle.command.specs.Kinds.{is_finalize}
 use Rattle.command.specs.Wire.{command_id}
 use Rattle.command.specs.declared.command.Command.{Command}
 use Rattle.command.proofs.AncestorFacts.{IsDown, ancestor_down, front_down, inside_down}
@@ -25,7 +25,7 @@ use Rattle.journal.specs.Commits.{IsNext as IsNextCommit, gated, gated_from, nex
 use Rattle.journal.specs.Images.{Damaged, Holds, OtherPolicy, ReadsAs, Reading}
 use Rattle.journal.specs.declared.commit.Commit.{Commit}
 use Rattle.journal.specs.declared.commit.Commit.TheVariants.{Graph, Commands}
-use Rattle.replica.specs.Fronts.{Admits, AreAdmitted, Front, IsDamaged, IsOfPolicy, Opening, Opens, OpensAs, OpensReading, all_added, behind_commit, behind_commits, no_front}
+use Rattle.replica.specs.Fronts.{Admits, Front, Opening, Opens, OpensAs, OpensReading, all_added, behind_commit, behind_commits, no_front}
 use Rattle.replica.proofs.JoinFacts.{AreWelcome}
 use Rattle.replica.proofs.JoinLists.{leads_itself, leads_on}
 

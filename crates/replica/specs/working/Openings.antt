@@ -1,5 +1,5 @@
 -- Commands and commits that are admitted one after another, up to the first that isn't added.
-use Rattle.std.specs.Prelude.{◌≡◌, ◌⊎◌, ℕ, Bool, true, false, List, [], ◌++◌, Option}
+use Rattle.std.specs.Prelude.{◌≡◌, ◌⊎◌, ℕ, Bool, true, false, List, ◌++◌, Option}
 use Rattle.accept.specs.Takes.{IsTake}
 use Rattle.accept.specs.declared.answer.Admit.{Admit}
 use Rattle.accept.specs.declared.answer.Admit.TheVariants.{Added}

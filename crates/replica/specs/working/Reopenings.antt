@@ -1,5 +1,5 @@
 -- What opening its disk again makes of a replica.
-use Rattle.std.specs.Prelude.{◌≡◌, ◌⊎◌, ℕ, IsTrue, List, length, Option, Some, None, Result, Ok, Err}
+use Rattle.std.specs.Prelude.{◌≡◌, ◌⊎◌, ℕ, IsTrue, length, Option, Some, None, Result, Ok, Err}
 use Rattle.braid_run.specs.Soundness.{Criteria, IsSound}
 use Rattle.braid_run.specs.States.{Held}
 use Rattle.journal.specs.Calls.{journal_disk, journal_outline}

@@ -1,8 +1,5 @@
-use Rattle.std.proofs.Common.{rules, ◌≡◌, true, false, ◌++◌, ◌∷◌, [], ◌∙◌, sym, subst}
-use Rattle.accept.specs.Admission.{IsAdmission}
-use Rattle.accept.specs.declared.answer.Admit.TheVariants.{Added}
+use Rattle.std.proofs.Common.{rules, ◌≡◌, true, false, ◌++◌}
 use Rattle.braid_run.specs.Soundness.{Criteria}
-use Rattle.braid_run.specs.States.{MayFollow}
 use Rattle.replica.specs.working.Openings.{is_added}
 use Rattle.replica.proofs.OpenFacts.{admission_added, none_added, one_added}
 use Rattle.replica.proofs.opening.admit_one.Goals as goal

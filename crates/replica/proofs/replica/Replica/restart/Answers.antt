@@ -1,7 +1,5 @@
-use Rattle.braid_run.specs.Soundness.{Criteria}
 use Rattle.journal.specs.Calls.{journal_disk}
 use Rattle.replica.specs.Disks.{Sense}
-use Rattle.replica.specs.working.Commits.{Parts}
 use Rattle.replica.proofs.ReopenFacts.{restart_keeps, restarted}
 use Rattle.replica.proofs.replica.Replica.restart.Goals as goal
 
