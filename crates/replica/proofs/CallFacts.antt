@@ -1,23 +1,20 @@
 -- Calls of a replica: from what they do to its parts to what contracts say of it whole.
-use Rattle.std.proofs.Common.{◌≡◌, ◌⊎◌, inl, inr, ℕ, ◌≤◌, Bool, IsTrue, List, [], ◌∷◌, ◌++◌, Option, Some, None, Result, Ok, Err, refl, sym, ap, subst, ◌∙◌, arith}
+use Rattle.std.proofs.Common.{◌≡◌, ◌⊎◌, inl, inr, ℕ, Bool, IsTrue, List, [], ◌∷◌, ◌++◌, Option, Some, None, Result, Ok, Err, refl, sym, ap, subst, ◌∙◌, arith}
 use Rattle.braid_run.specs.Soundness.{AreSound, Criteria}
 use Rattle.braid_run.specs.States.{Held}
 use Rattle.journal.specs.Calls.{journal_disk, journal_outline}
 use Rattle.journal.specs.declared.commit.Commit.{Commit}
-use Rattle.journal.specs.declared.journal.Journal.{Journal}
-use Rattle.outside.specs.Crashes.{LeavesOnly, MayLeave}
 use Rattle.outside.specs.declared.faults.DiskStep.{DiskStep}
 use Rattle.outside.proofs.Crashes.{no_calls, weaker}
 use Rattle.policy_ast.specs.declared.policy.PlacedItem.{PlacedItem}
 use Rattle.replica.specs.Disks.{AreSoundFronts, FailsWithDisk, IsTrusted, MayOpenTo, OpensToOf, Sense, Survives, Withstands}
 use Rattle.replica.specs.Fronts.{Front, OpensAs, Opens, behind_commit, behind_commits, front_of, no_front}
-use Rattle.replica.specs.Kept.{IsReplica, IsUpWith, Kept, loose_of}
-use Rattle.replica.specs.Steps.{FailsIn, IsStep, Refuses}
-use Rattle.replica.specs.declared.down.Down.{Down}
+use Rattle.replica.specs.Kept.{IsReplica, Kept, loose_of}
+use Rattle.replica.specs.Steps.{IsStep}
 use Rattle.replica.specs.declared.refusal.Refusal.{Refusal}
 use Rattle.replica.specs.declared.refusal.Refusal.TheVariants as refusal
 use Rattle.replica.specs.working.Backing.{IsBacked, LeadTo, ReadsLoose}
-use Rattle.replica.specs.working.Commits.{Commits, Does, EndsCommitting, Gave, OpensSound, Parts, ReadsHeld, Refused, SurvivesSettled}
+use Rattle.replica.specs.working.Commits.{Does, EndsCommitting, OpensSound, Parts, ReadsHeld, SurvivesSettled}
 use Rattle.replica.proofs.CommitFacts.{behind_one_more, reads_backed}
 
 -- a replica with these parts

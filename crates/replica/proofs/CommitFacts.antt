@@ -1,22 +1,19 @@
 -- Commits: what is held, what the disk holds and what a crash may leave, behind a call that commits.
-use Rattle.std.proofs.Common.{◌≡◌, ◌⊎◌, inl, inr, ℕ, suc, ◌+◌, ◌-◌, ◌<◌, ◌≤◌, true, false, Bool, IsTrue, List, [], ◌∷◌, ◌++◌, Option, Some, None, Result, Ok, Err, length, take, OnOk, refl, sym, ap, subst, ◌∙◌, arith, length-append}
-use Rattle.std.specs.List.{All, Any}
+use Rattle.std.proofs.Common.{◌≡◌, ◌⊎◌, inl, inr, ℕ, suc, ◌+◌, ◌-◌, ◌<◌, false, IsTrue, List, [], ◌∷◌, ◌++◌, Option, Some, None, Result, Ok, Err, length, take, refl, sym, ap, subst, ◌∙◌, arith, length-append}
+use Rattle.std.specs.List.{Any}
 use Rattle.std.specs.Option.{is_none}
-use Rattle.braid_run.specs.Soundness.{AreSound, Criteria}
 use Rattle.braid_run.specs.States.{HasOneInit, Held, IsStanding, extended}
-use Rattle.command.specs.Closed.{IsClosed, max_commands}
-use Rattle.command.specs.Wire.{IsFormed, IsInForm}
 use Rattle.command.specs.declared.command.Command.{Command}
 use Rattle.fact_store.specs.declared.row.Row.{Row}
 use Rattle.braid_run.specs.declared.entry.Entry.{Entry}
-use Rattle.journal.specs.Calls.{AreAddable, CanAdd, journal_disk, journal_failed, journal_outline}
+use Rattle.journal.specs.Calls.{AreAddable, CanAdd, journal_disk, journal_outline}
 use Rattle.journal.specs.Commits.{begins_with_init}
 use Rattle.journal.specs.Journal.{IsBeforeOrAfter, IsSettled}
 use Rattle.journal.specs.Outline.{Outline, outline_behind}
 use Rattle.journal.specs.declared.commit.Commit.{Commit}
 use Rattle.journal.specs.declared.commit.Commit.TheVariants.{Graph, Commands}
 use Rattle.journal.specs.declared.journal.Journal.{Journal}
-use Rattle.outside.specs.Crashes.{Leaves, LeavesOnly, MayLeave, clock, moments, moments_since}
+use Rattle.outside.specs.Crashes.{LeavesOnly, MayLeave, clock, moments, moments_since}
 use Rattle.outside.specs.Disk.{Content, IsImage}
 use Rattle.outside.specs.declared.faults.DiskStep.{DiskStep}
 use Rattle.outside.proofs.Crashes.{no_calls, weaker}
@@ -27,7 +24,7 @@ use Rattle.replica.specs.declared.down.Down.{Down}
 use Rattle.replica.specs.declared.refusal.Refusal.{Refusal}
 use Rattle.replica.specs.declared.refusal.Refusal.TheVariants as refusal
 use Rattle.replica.specs.working.Backing.{IsBacked, IsHeldBy, LeadTo, ReadsLoose}
-use Rattle.replica.specs.working.Commits.{Commits, EndsCommitting, EndsWriting, Parts, ReadsHeld, SurvivesSettled, Writes}
+use Rattle.replica.specs.working.Commits.{Commits, EndsWriting, Parts, ReadsHeld, SurvivesSettled, Writes}
 use Rattle.replica.proofs.ActFacts.{all_formed}
 use Rattle.transaction.specs.Applying.{graph_named}
 

@@ -1,5 +1,5 @@
 -- Calls of a replica that is up: what they found to do, and why they refuse.
-use Rattle.std.proofs.Common.{◌≡◌, ◌⊎◌, inl, inr, ℕ, Bool, true, false, cond, ◌<◌, List, [], ◌∷◌, ◌++◌, Option, Some, None, Result, Ok, Err, IfOk, IfErr, length, refl, sym, ap, subst, ◌∙◌, arith}
+use Rattle.std.proofs.Common.{◌≡◌, ◌⊎◌, inl, inr, ℕ, Bool, true, false, cond, List, [], ◌∷◌, ◌++◌, Option, Some, None, Result, Ok, Err, IfOk, IfErr, length, refl, sym, ap, ◌∙◌, arith}
 use Rattle.braid_run.specs.Soundness.{AreSound, Criteria}
 use Rattle.braid_run.specs.States.{Held, IsStanding}
 use Rattle.command.specs.declared.command.Command.{Command}

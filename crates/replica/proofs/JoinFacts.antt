@@ -1,6 +1,6 @@
 -- The takes of a session: what is sent is held behind them, or was refused for now.
 use Rattle.std.proofs.Common.{◌≡◌, ℕ, ◌≤◌, ◌⊎◌, inl, inr, List, [], ◌∷◌, ◌++◌, length, Option, Some, refl, sym, subst, arith}
-use Rattle.std.specs.List.{All, Contains}
+use Rattle.std.specs.List.{Contains}
 use Rattle.std.proofs.lemmas.List.Elements.{All-contains, Contains-append_cases, Contains-append_left, Contains-append_right, Contains-push}
 use Rattle.accept.specs.Admission.{IsAdmission}
 use Rattle.accept.specs.Laws.{IsHindered, IsWelcome}

@@ -1,5 +1,5 @@
 -- A commit that names the graph of a replica.
-use Rattle.std.proofs.Common.{◌≡◌, ℕ, true, List, [], Option, Some, None, Result, Ok, Err, refl, sym, ap, subst, ◌∙◌}
+use Rattle.std.proofs.Common.{◌≡◌, ℕ, List, Option, Some, None, Result, Ok, Err, refl, sym, ap, subst, ◌∙◌}
 use Rattle.std.specs.Option.{is_none}
 use Rattle.braid_run.specs.Soundness.{AreSound, Criteria}
 use Rattle.braid_run.specs.States.{HasOneInit, Held}

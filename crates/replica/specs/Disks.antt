@@ -1,5 +1,5 @@
 -- What a crash may leave of a replica's disk: at each moment its image opens to what the replica was before or is after.
-use Rattle.std.specs.Prelude.{◌≡◌, ◌⊎◌, ℕ, ◌≤◌, Bool, IsTrue, List, Option, Some, Result, Ok, Err}
+use Rattle.std.specs.Prelude.{◌≡◌, ◌⊎◌, ℕ, ◌≤◌, Bool, IsTrue, List, Option, Some, Result, Err}
 use Rattle.braid_run.specs.Soundness.{AreSound, Criteria}
 use Rattle.journal.specs.declared.commit.Commit.{Commit}
 use Rattle.journal.specs.declared.fault.OpenFault.{OpenFault}

@@ -1,5 +1,5 @@
 -- What a replica keeps, as contracts see it.
-use Rattle.std.specs.Prelude.{◌≡◌, ℕ, Bool, true, List, [], Option, Some, None, option_and_then, option_map}
+use Rattle.std.specs.Prelude.{◌≡◌, ℕ, Bool, true, List, [], Option, None, option_and_then, option_map}
 use Rattle.braid_run.specs.Soundness.{Criteria, IsSound}
 use Rattle.braid_run.specs.States.{Held}
 use Rattle.journal.specs.Outline.{Outline}

@@ -1,5 +1,5 @@
 -- How a call of a replica goes: it does what is asked, or refuses it, or its disk fails. Memory may lack in place of each.
-use Rattle.std.specs.Prelude.{◌≡◌, ◌⊎◌, Option, Some, None, Result, Ok, Err}
+use Rattle.std.specs.Prelude.{◌≡◌, ◌⊎◌, Some, None, Result, Ok, Err}
 use Rattle.braid_run.specs.States.{Held}
 use Rattle.journal.specs.declared.commit.Commit.{Commit}
 use Rattle.outside.specs.declared.faults.DiskStep.{DiskStep}

@@ -40,13 +40,11 @@ fn prepare_for<R: Runner, G: Graph, F: FactBase, E: Envelope, L: Ledger>(
     requires replica { IsReplica (R.rules runner.now) digest.now state.now.held }
     ensures { IsReply
         (λ ready. IsReadyFor (record { policy = R.rules runner.now; digest = digest.now; good = E.good }) state.now.held bytes.now ready.taken
-            (option_map (λ change. record { commands = change.commands; rows = F.rows change.ran.facts; entries = change.ran.entries.all }) ready.change))
+        (option_map (λ change. record { commands = change.commands; rows = F.rows change.ran.facts; entries = change.ran.entries.all }) ready.change))
         (λ why. IsResponseRead bytes.now state.now.held.graph_id (Err why)) result }
 {
     let response = response_for(alloc, bytes, &state.graph_id())?;
-    let ready = prepare_take::<R, G, F, E, L>(
-        alloc, runner, digest, state, &response, env, steps,
-    )?;
+    let ready = prepare_take::<R, G, F, E, L>(alloc, runner, digest, state, &response, env, steps)?;
     Ok(ready)
 }
 
@@ -69,8 +67,8 @@ fn write_change<G: Graph, F: FactBase, D: Disk, T: Drop>(
     ensures reply { IfOk result (λ it. it ≡ reply) }
     ensures commits { (digest : List ℕ) → IsBacked (record { tells = D.tells; content = D.content; honest = D.honest }) digest state.old.held None journal.old
         → Commits (record { tells = D.tells; content = D.content; honest = D.honest }) D.faults D.last_step digest
-          (extended state.old.held change.commands 0 (F.rows change.ran.facts) change.ran.entries.all)
-          (record { held = state.old.held; down = down.old; journal = journal.old }) result (record { held = state.new.held; down = down.new; journal = journal.new }) }
+        (extended state.old.held change.commands 0 (F.rows change.ran.facts) change.ran.entries.all)
+        (record { held = state.old.held; down = down.old; journal = journal.old }) result (record { held = state.new.held; down = down.new; journal = journal.new }) }
 {
     settled_journals_survive();
     let Change { commands, ran } = change;
@@ -100,8 +98,8 @@ fn commit_some<G: Graph, F: FactBase, D: Disk, T: Drop>(
     ensures reply { IfOk result (λ it. it ≡ reply) }
     ensures commits { (digest : List ℕ) → IsBacked (record { tells = D.tells; content = D.content; honest = D.honest }) digest state.old.held None journal.old
         → Commits (record { tells = D.tells; content = D.content; honest = D.honest }) D.faults D.last_step digest
-          (extended state.old.held change.commands 0 (F.rows change.ran.facts) change.ran.entries.all)
-          (record { held = state.old.held; down = down.old; journal = journal.old }) result (record { held = state.new.held; down = down.new; journal = journal.new }) }
+        (extended state.old.held change.commands 0 (F.rows change.ran.facts) change.ran.entries.all)
+        (record { held = state.old.held; down = down.old; journal = journal.old }) result (record { held = state.new.held; down = down.new; journal = journal.new }) }
 {
     settled_journals_survive();
     match state.reserve(alloc, change.commands.len(), change.ran.entries.len()) {
@@ -127,8 +125,8 @@ fn commit_change<G: Graph, F: FactBase, D: Disk, T: Drop>(
     ensures reply { IfOk result (λ it. it ≡ reply) }
     ensures commits { (digest : List ℕ) → IsBacked (record { tells = D.tells; content = D.content; honest = D.honest }) digest state.old.held None journal.old
         → Commits (record { tells = D.tells; content = D.content; honest = D.honest }) D.faults D.last_step digest
-          (changed state.old.held (option_map (λ change. record { commands = change.commands; rows = F.rows change.ran.facts; entries = change.ran.entries.all }) change))
-          (record { held = state.old.held; down = down.old; journal = journal.old }) result (record { held = state.new.held; down = down.new; journal = journal.new }) }
+        (changed state.old.held (option_map (λ change. record { commands = change.commands; rows = F.rows change.ran.facts; entries = change.ran.entries.all }) change))
+        (record { held = state.old.held; down = down.old; journal = journal.old }) result (record { held = state.new.held; down = down.new; journal = journal.new }) }
 {
     settled_journals_survive();
     match change {
@@ -154,7 +152,7 @@ pub fn take_on<R: Runner, G: Graph, F: FactBase, D: Disk, E: Envelope, L: Ledger
     requires backed { IsBacked (record { tells = D.tells; content = D.content; honest = D.honest }) digest.now state.old.held None journal.old }
     ensures { Does (record { tells = D.tells; content = D.content; honest = D.honest }) D.faults D.last_step (record { policy = R.rules runner.now; digest = digest.now; good = E.good })
         (λ taken held. (response : AResponse) × IsResponseRead bytes.now state.old.held.graph_id (Ok response)
-            × Takes (record { policy = R.rules runner.now; digest = digest.now; good = E.good }) state.old.held response taken held)
+        × Takes (record { policy = R.rules runner.now; digest = digest.now; good = E.good }) state.old.held response taken held)
         (λ why. IsResponseRead bytes.now state.old.held.graph_id (Err why))
         (record { held = state.old.held; down = down.old; journal = journal.old }) result (record { held = state.new.held; down = down.new; journal = journal.new }) }
 {
@@ -181,7 +179,7 @@ pub fn take_twice_on<R: Runner, G: Graph, F: FactBase, D: Disk, E: Envelope, L: 
     requires backed { IsBacked (record { tells = D.tells; content = D.content; honest = D.honest }) digest.now state.old.held None journal.old }
     ensures { Does (record { tells = D.tells; content = D.content; honest = D.honest }) D.faults D.last_step (record { policy = R.rules runner.now; digest = digest.now; good = E.good })
         (λ two held. (two.0 ≡ two.1) × ((response : AResponse) × IsResponseRead bytes.now state.old.held.graph_id (Ok response)
-            × Takes (record { policy = R.rules runner.now; digest = digest.now; good = E.good }) state.old.held response two.0 held))
+        × Takes (record { policy = R.rules runner.now; digest = digest.now; good = E.good }) state.old.held response two.0 held))
         (λ why. IsResponseRead bytes.now state.old.held.graph_id (Err why))
         (record { held = state.old.held; down = down.old; journal = journal.old }) result (record { held = state.new.held; down = down.new; journal = journal.new }) }
 {

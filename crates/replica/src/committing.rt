@@ -112,7 +112,7 @@ pub fn join_on<G: Graph, F: FactBase, D: Disk>(
     requires backed { (digest : List ℕ) × IsBacked (record { tells = D.tells; content = D.content; honest = D.honest }) digest state.old.held None journal.old }
     ensures gave { (criteria : Criteria) → IsReplica criteria.policy criteria.digest state.old.held → IsBacked (record { tells = D.tells; content = D.content; honest = D.honest }) criteria.digest state.old.held None journal.old
         → Gave (record { tells = D.tells; content = D.content; honest = D.honest }) D.faults D.last_step criteria (λ reply held. (state.old.held.graph_id ≡ None) × (held ≡ record state.old.held { graph_id = Some graph.now }))
-          (record { held = state.old.held; down = down.old; journal = journal.old }) result (record { held = state.new.held; down = down.new; journal = journal.new }) }
+        (record { held = state.old.held; down = down.old; journal = journal.old }) result (record { held = state.new.held; down = down.new; journal = journal.new }) }
 {
     settled_journals_survive();
     match write(alloc, journal, down, Commit::Graph(*graph)) {

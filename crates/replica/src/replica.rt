@@ -14,8 +14,8 @@ use crate::acting::act_on;
 use crate::changing::{take_on, take_twice_on};
 use crate::committing::{join_on, journals_open};
 use crate::counts::{Published, Taken};
-use crate::messages::{request_for, response_for};
 use crate::down::Down;
+use crate::messages::{request_for, response_for};
 use crate::opening::opened_state;
 use crate::refusal::Refusal;
 use crate::restarting::restart_on;
@@ -141,7 +141,13 @@ impl<R: Runner, G: Graph, F: FactBase, D: Disk> Replica<R, G, F, D> {
         if is_named {
             return Err(Refusal::HasGraph);
         }
-        join_on(alloc, &mut self.journal, &mut self.down, &mut self.state, graph)
+        join_on(
+            alloc,
+            &mut self.journal,
+            &mut self.down,
+            &mut self.state,
+            graph,
+        )
     }
 
     /// Runs an action, and adds all that it publishes or nothing.

@@ -61,7 +61,11 @@ fn count<G: Graph>(
 }
 
 /// Adds a copy of the command.
-pub fn add<G: Graph>(alloc: Global, over: &mut Over<'_, G>, command: &Command) -> Result<(), NoMemory>
+pub fn add<G: Graph>(
+    alloc: Global,
+    over: &mut Over<'_, G>,
+    command: &Command,
+) -> Result<(), NoMemory>
     requires few { length (G.commands over.old.base.now ++ over.old.added.items) < max_commands }
     requires next { IsNext (G.commands over.old.base.now ++ over.old.added.items) command.now }
     ensures base { G.commands over.new.base.now ≡ G.commands over.old.base.now }

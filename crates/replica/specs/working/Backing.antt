@@ -1,5 +1,5 @@
 -- What is true of every replica's journal and disk.
-use Rattle.std.specs.Prelude.{◌≡◌, ◌⊎◌, ℕ, Bool, true, false, IsTrue, List, ◌∷◌, ◌++◌, [], length, Option, Some, None}
+use Rattle.std.specs.Prelude.{◌≡◌, ◌⊎◌, ℕ, false, IsTrue, List, ◌∷◌, ◌++◌, [], length, Option, Some, None}
 use Rattle.std.specs.Option.{is_none}
 use Rattle.braid_run.specs.States.{Held}
 use Rattle.journal.specs.Calls.{journal_disk, journal_failed, journal_outline}
@@ -13,7 +13,6 @@ use Rattle.outside.specs.Crashes.{MayLeave}
 use Rattle.outside.specs.Disk.{Content}
 use Rattle.replica.specs.Disks.{Sense}
 use Rattle.replica.specs.Fronts.{behind_commits, front_of, no_front}
-use Rattle.replica.specs.Kept.{loose_of}
 use Rattle.replica.specs.declared.down.Down.{Down}
 
 -- These are the commits of what is held.

@@ -1,5 +1,5 @@
 -- What a commit does to a replica's journal, and what a call does that commits.
-use Rattle.std.specs.Prelude.{◌≡◌, ◌⊎◌, ℕ, Bool, false, IsTrue, List, ◌∷◌, ◌++◌, [], Option, Some, None, Result, Ok, Err, OnOk}
+use Rattle.std.specs.Prelude.{◌≡◌, ◌⊎◌, ℕ, false, IsTrue, List, ◌∷◌, ◌++◌, [], Option, Some, None, Result, Ok, Err, OnOk}
 use Rattle.braid_run.specs.Soundness.{AreSound, Criteria}
 use Rattle.braid_run.specs.States.{Held}
 use Rattle.journal.specs.Calls.{journal_disk, journal_failed, journal_outline}
@@ -12,7 +12,6 @@ use Rattle.journal.specs.declared.journal.Journal.{Journal}
 use Rattle.outside.specs.Crashes.{LeavesOnly, MayLeave}
 use Rattle.outside.specs.Disk.{Content}
 use Rattle.outside.specs.declared.faults.DiskStep.{DiskStep}
-use Rattle.policy_ast.specs.declared.policy.PlacedItem.{PlacedItem}
 use Rattle.replica.specs.Disks.{FailsWithDisk, Sense}
 use Rattle.replica.specs.Fronts.{OpensAs, Opens, behind_commit, behind_commits, front_of, no_front}
 use Rattle.replica.specs.Kept.{IsReplica, loose_of}

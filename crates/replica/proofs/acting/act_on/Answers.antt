@@ -1,7 +1,6 @@
 use Rattle.std.proofs.Common.{◌≡◌, ◌⊎◌, inl, inr, ◌++◌, length, refl, sym, ap, subst, rules}
 use Rattle.braid_run.specs.Soundness.{Criteria}
 use Rattle.braid_run.specs.States.{Held, IsStanding}
-use Rattle.outside.specs.Causes.{Rose}
 use Rattle.replica.specs.Actions.{IsFault}
 use Rattle.replica.specs.Disks.{Sense}
 use Rattle.replica.specs.Kept.{IsReplica}

@@ -1,4 +1,4 @@
-use Rattle.std.proofs.Common.{◌≡◌, ℕ, ◌<◌, length, refl, subst, arith}
+use Rattle.std.proofs.Common.{◌≡◌, ◌<◌, length, refl, subst, arith}
 use Rattle.journal.specs.Calls.{journal_outline}
 use Rattle.journal.specs.declared.commit.Commit.TheVariants.{Commands}
 use Rattle.replica.specs.Disks.{Sense}

@@ -1,6 +1,6 @@
 use Rattle.std.proofs.Common.{◌≡◌, Some, None, IsSome, inr, ap, subst, ◌∙◌}
-use Rattle.replica.specs.Disks.{AreSoundFronts, IsTrusted, Sense, Withstands}
-use Rattle.replica.specs.Kept.{Kept, any_tag}
+use Rattle.replica.specs.Disks.{Sense}
+use Rattle.replica.specs.Kept.{any_tag}
 use Rattle.replica.specs.declared.refusal.Refusal.TheVariants as refusal
 use Rattle.replica.specs.working.Backing.{IsBacked}
 use Rattle.replica.proofs.CallFacts.{called, still_one}

@@ -1,4 +1,4 @@
-use Rattle.std.proofs.Common.{◌≡◌, Err}
+use Rattle.std.proofs.Common.{Err}
 use Rattle.replica.specs.Disks.{Sense}
 use Rattle.replica.specs.Calls.{IsTakeOf}
 use Rattle.replica.specs.Messages.{IsResponseRead}
