@@ -13,4 +13,5 @@ pub mod NamedFacts
 pub mod Opens
 pub mod OpenFacts
 pub mod DoneFacts
+pub mod OpenedFacts
 pub mod ReopenFacts

@@ -4,7 +4,7 @@ use Rattle.journal.specs.Calls.{journal_disk}
 use Rattle.journal.specs.declared.journal.Journal.{Journal}
 use Rattle.replica.specs.Disks.{OpensWhole, Sense}
 use Rattle.replica.specs.working.Openings.{IsLedTo, IsRefusedAt}
-use Rattle.replica.proofs.ReopenFacts.{answers_damaged, answers_led, answers_refused, backed_opened, opened_trusted, opens_whole}
+use Rattle.replica.proofs.OpenedFacts.{answers_damaged, answers_led, answers_refused, backed_opened, opened_trusted, opens_whole}
 use Rattle.replica.proofs.replica.Replica.open_on.Goals as goal
 
 pub returns-in-Err-clause-opens : goal.returns-in-Err-clause-opens
