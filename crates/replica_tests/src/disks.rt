@@ -157,7 +157,14 @@ fn made_by<L: Ledger>(alloc: Global, party: &mut Party, blank: Blank) -> Result<
     let mut steps = Steps::<L>::start(blank);
     let mut messages = Vec::new(alloc);
     for call in [Init("begin", &[]), Act(1, "low", &[Int(1)])] {
-        call_one(alloc, party, &mut messages, call, &mut TagEnvelope, &mut steps)?;
+        call_one(
+            alloc,
+            party,
+            &mut messages,
+            call,
+            &mut TagEnvelope,
+            &mut steps,
+        )?;
     }
     Ok(())
 }
