@@ -5,7 +5,6 @@ use crate::graphs::{Ask, Shape, run as run_graph};
 use crate::journals::{keep_at, open_at, scan_at};
 use crate::responses::{Call, Size, run};
 use crate::scripts::{SAMPLE, report_script};
-use crate::turns::{report_turn_words, report_turns};
 use base_bytes::NoMemory;
 use std::{fs, io};
 
@@ -116,9 +115,6 @@ pub fn usage(rt: &HostRuntime) -> io::Result<()> {
 }
 
 pub fn report_words(rt: &HostRuntime, call: &str, size: &str, rounds: &str) -> io::Result<()> {
-    if call == "turns" {
-        return report_turn_words(rt, size, rounds);
-    }
     match (call_of(call), size_of(size), rounds_of(rounds)) {
         (Some(call), Some(size), Some(rounds)) => report(rt, call, size, rounds),
         _ => usage(rt),
@@ -201,6 +197,5 @@ pub fn report_all(rt: &HostRuntime) -> io::Result<()> {
     report_disk(rt, 3)?;
     report_journal(rt)?;
     report_facts(rt)?;
-    report_script(rt, SAMPLE.as_bytes())?;
-    report_turns(rt)
+    report_script(rt, SAMPLE.as_bytes())
 }

@@ -1,7 +1,6 @@
 // Callers that take turns at a lock, often: `bench/turns` takes the time.
 ghost use denote.Param.Send.{IsSync};
 
-use crate::calls::usage;
 use crate::shares::share_of;
 use samples::callers::{Work, four, make_turns};
 use samples::tally::Tally;
@@ -12,7 +11,7 @@ use std::thread::Threads;
 use turn_lock::{NoMemory, TurnLock};
 
 #[derive(Clone, Copy)]
-enum Callers {
+pub enum Callers {
     One,
     Four,
 }
@@ -42,7 +41,7 @@ fn out_of_memory(_error: NoMemory) -> io::Error {
     io::Error::from(io::ErrorKind::OutOfMemory)
 }
 
-fn run<R: Threads + Wait + Sync>(
+pub fn run<R: Threads + Wait + Sync>(
     rt: &R,
     alloc: Global,
     callers: Callers,
@@ -59,12 +58,12 @@ fn run<R: Threads + Wait + Sync>(
 }
 
 /// How many turns stand in the list, and the counter behind them.
-fn report(rt: &HostRuntime, tally: &Tally) -> io::Result<()> {
+pub fn report(rt: &HostRuntime, tally: &Tally) -> io::Result<()> {
     println!(rt; "{} turns, counter {}", tally.turns().len(), tally.count())
 }
 
 /// For each caller its turns, and the most turns of others between two of its own.
-fn report_shares(rt: &HostRuntime, callers: Callers, tally: &Tally) -> io::Result<()> {
+pub fn report_shares(rt: &HostRuntime, callers: Callers, tally: &Tally) -> io::Result<()> {
     for number in 0..numbers_of(callers) {
         let share = share_of(tally.turns(), number);
         println!(rt;
@@ -75,18 +74,10 @@ fn report_shares(rt: &HostRuntime, callers: Callers, tally: &Tally) -> io::Resul
     Ok(())
 }
 
-/// The words of how many callers there are, and how many turns each makes.
-pub fn report_turn_words(rt: &HostRuntime, callers: &str, turns: &str) -> io::Result<()> {
-    let (Some(callers), Some(turns)) = (callers_of(callers), turns.parse::<u32>().ok()) else {
-        return usage(rt);
-    };
-    let tally = run(rt, rt.alloc(), callers, turns)?;
-    report(rt, &tally)?;
-    report_shares(rt, callers, &tally)
-}
-
-/// A few turns of one caller, and of four.
-pub fn report_turns(rt: &HostRuntime) -> io::Result<()> {
-    report(rt, &run(rt, rt.alloc(), Callers::One, 1000)?)?;
-    report(rt, &run(rt, rt.alloc(), Callers::Four, 250)?)
+/// How many callers the words ask for, and how many turns of each.
+pub fn asked(callers: &str, turns: &str) -> Option<(Callers, u32)> {
+    match (callers_of(callers), turns.parse::<u32>().ok()) {
+        (Some(callers), Some(turns)) => Some((callers, turns)),
+        _ => None,
+    }
 }
