@@ -38,6 +38,7 @@ fn runner_of(alloc: Global, document: &str) -> Result<Option<TreeRunner>, NoMemo
 }
 
 /// What opening a replica comes to.
+#[derive(Drop)]
 pub enum Opened {
     Party(Party),
     Refused(OpenFault, MemoryDisk),
