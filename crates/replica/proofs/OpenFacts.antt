@@ -1,5 +1,5 @@
 -- Commits that are admitted one after another.
-use Rattle.std.proofs.Common.{◌≡◌, ℕ, ◌+◌, ◌≤◌, inl, inr, Bool, true, false, List, [], ◌∷◌, ◌++◌, length, take, Option, Some, None, refl, sym, ap, subst, ◌∙◌, arith, append_assoc, append-nil, length-append}
+use Rattle.std.proofs.Common.{◌≡◌, ℕ, ◌+◌, ◌≤◌, inl, inr, true, false, List, [], ◌∷◌, ◌++◌, length, take, Option, Some, None, refl, sym, ap, subst, ◌∙◌, arith, append_assoc, append-nil, length-append}
 use Rattle.std.specs.List.{All, AllByRecursion}
 use Rattle.accept.specs.Admission.{IsAdmission}
 use Rattle.accept.specs.Takes.{IsTake, IsTakenOn, Tally, counted}
@@ -21,7 +21,7 @@ use Rattle.policy_meaning.specs.Typed.{AreTyped}
 use Rattle.replica.specs.Fronts.{Admits, AreAdmitted, Front, Opening, Opens, all_added, behind_commit, front_of, no_front}
 use Rattle.replica.specs.Kept.{any_tag, nothing_held}
 use Rattle.replica.specs.working.Changes.{Change, Reruns}
-use Rattle.replica.specs.working.Openings.{Adds, AddsOrNot, Goes, GoesOrNot, IsLedTo, is_added}
+use Rattle.replica.specs.working.Openings.{Adds, IsLedTo, is_added}
 use Rattle.replica.proofs.Opens.{HaveOneAnswer}
 use Rattle.transaction.specs.Applying.{graph_named}
 
