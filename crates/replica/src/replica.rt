@@ -209,8 +209,7 @@ impl<R: Runner, G: Graph, F: FactBase, D: Disk> Replica<R, G, F, D> {
         ensures disk { FailsWithDisk D.faults D.last_step self.old.disk self.new.disk result }
     {
         self.check_up()?;
-        let known = self.state.graph_id().is_some();
-        if known {
+        if self.state.graph_id().is_some() {
             return Err(Refusal::HasGraph);
         }
         self.run_action(alloc, action, args, true, env, steps)

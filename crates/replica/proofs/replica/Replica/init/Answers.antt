@@ -3,5 +3,5 @@ use Rattle.replica.proofs.replica.Replica.init.Goals as goal
 pub returns-in_err-check_up-clause-crash : goal.returns-in_err-check_up-clause-crash
 returns-in_err-check_up-clause-crash g c = c.check_up.ensures.stays g.E.Envelope.good
 
-pub returns-then-known-clause-crash : goal.returns-then-known-clause-crash
-returns-then-known-clause-crash g c = c.check_up.ensures.stays g.E.Envelope.good
+pub returns-then-is_some-clause-crash : goal.returns-then-is_some-clause-crash
+returns-then-is_some-clause-crash g c = c.check_up.ensures.stays g.E.Envelope.good
