@@ -6,13 +6,12 @@ use Rattle.std.proofs.lemmas.Slice.Eq.{bytes_eq-Decides}
 use Rattle.std.specs.List.{list_any}
 use Rattle.std.specs.Str.{bytes_eq}
 use Rattle.std.specs.Str.Lines.{lines}
-use Rattle.policy_ast.specs.declared.policy.PlacedItem.{PlacedItem}
 use Rattle.script.specs.Scripts.{Declared, IsScript, Lines, declares, has_message, has_place, has_room, nothing_yet, with_line}
 use Rattle.script.specs.Scripts as scripts
 use Rattle.script.specs.declared.line.Line.{Line}
 use Rattle.script.specs.declared.line.Line.TheVariants as line
 use Rattle.world.specs.Lines.{may_run}
-use Rattle.world.specs.Worlds.{Named, Site, begun_on, declared, disks_of, opened}
+use Rattle.world.specs.Worlds.{Named, Site, declared}
 use Rattle.aranyad.specs.Scripts.{names_of}
 use Rattle.aranyad.specs.working.Following.{FollowIn}
 
@@ -34,12 +33,6 @@ declared_by_all so_far rest names a all is =
 -- the name that a line declares is one of them
 own_name : (names : List (List ℕ)) (a : List ℕ) → list_any (λ other. bytes_eq other a) (a ∷ names) ≡ true
 own_name names a = still_there (bytes_eq a a) _ ((bytes_eq-Decides a a).1 refl)
-
--- replicas that are opened have the names
-pub names_opened : {D : Type 0} (policy : List PlacedItem) (digest : List ℕ) (names : List (List ℕ)) (disks : List D) → length names ≤ length disks → map (λ (r : Named D). r.name) (begun_on policy digest names disks) ≡ names
-names_opened policy digest [] disks room = refl
-names_opened policy digest (name ∷ names) [] room = absurd (omega (arith, room))
-names_opened policy digest (name ∷ names) (disk ∷ disks) room = ap (λ l. name ∷ l) (names_opened policy digest names disks (omega (arith, room)))
 
 -- ---- tests
 
@@ -183,40 +176,6 @@ pub follow_on : {D : Type 0} (site new : Site D) (one : Line) (behind : List Lin
     length new.messages ≡ (with_line (declared site) one).messages → FollowIn new behind
 follow_on site new one behind follow names messages = rest_follows site new one behind follow.so_far follow.before follow.texts follow.placed follow.names follow.messages names messages
 
-pub script_follows : {D : Type 0} (policy : List PlacedItem) (digest : List ℕ) (disks : List D) (script : List ℕ) (found : List Line) → IsScript script found → length (names_of found) ≤ length disks →
-    FollowIn (opened policy digest (names_of found) disks) found
-script_follows policy digest disks script found is room = record {
-  so_far = nothing_yet;
-  before = 0;
-  texts = lines script;
-  placed = is;
-  names = names_opened policy digest (names_of found) disks room;
-  messages = refl;
-}
-
--- ---- the world as it is opened
-
 -- there is a disk for each replica
 pub names_fit : {D : Type 0} (script : List ℕ) (found : List Line) (names : List (List ℕ)) (disks : List D) → IsScript script found → names ≡ names_of found → length disks ≡ 8 → length names ≤ length disks
 names_fit script found names disks is same eight = let few = few_names script found is in omega (arith, few, ap length same, eight)
-
-pub same_opened : {D : Type 0} (p q : List PlacedItem) (digest : List ℕ) (names ns : List (List ℕ)) (disks ds : List D) (world : Site D) → world ≡ opened p digest names disks → p ≡ q → names ≡ ns → disks ≡ ds →
-    world ≡ opened q digest ns ds
-same_opened p q digest names ns disks ds world is same_policy same_names same_disks =
-    is ∙ ap (λ x. opened x digest names disks) same_policy ∙ ap (λ x. opened q digest x disks) same_names ∙ ap (λ x. opened q digest ns x) same_disks
-
--- all disks are there, in their order
-pub disks_opened : {D : Type 0} (policy : List PlacedItem) (digest : List ℕ) (names : List (List ℕ)) (disks : List D) → length names ≤ length disks → disks_of (opened policy digest names disks) ≡ disks
-disks_opened policy digest [] disks room = refl
-disks_opened policy digest (name ∷ names) [] room = absurd (omega (arith, room))
-disks_opened policy digest (name ∷ names) (disk ∷ disks) room = ap (λ l. disk ∷ l) (disks_opened policy digest names disks (omega (arith, room)))
-
-pub world_follows : {D : Type 0} (policy : List PlacedItem) (digest : List ℕ) (disks : List D) (script : List ℕ) (found : List Line) (world : Site D) → world ≡ opened policy digest (names_of found) disks → IsScript script found →
-    length disks ≡ 8 → FollowIn world found
-world_follows policy digest disks script found world is read eight =
-    subst (λ w. FollowIn w found) (sym is) (script_follows policy digest disks script found read (names_fit script found (names_of found) disks read refl eight))
-
-pub disks_stay : {D : Type 0} (policy : List PlacedItem) (digest : List ℕ) (disks : List D) (script : List ℕ) (found : List Line) (world : Site D) → world ≡ opened policy digest (names_of found) disks → IsScript script found →
-    length disks ≡ 8 → disks_of world ≡ disks
-disks_stay policy digest disks script found world is read eight =
-    ap disks_of is ∙ disks_opened policy digest (names_of found) disks (names_fit script found (names_of found) disks read refl eight)

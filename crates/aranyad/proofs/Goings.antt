@@ -1,26 +1,34 @@
 -- How parts of a run go, one after another.
-use Rattle.std.proofs.Common.{◌≡◌, ℕ, suc, ◌+◌, ◌<◌, add-one, drop, drop-cons, get_or, length, List, [], ◌∷◌, ◌++◌, Option, Some, None, Result, Ok, Err, refl, sym, ap, subst, ◌∙◌, inr, append_assoc}
-use Rattle.std.specs.Prelude.{IfSome}
+use Rattle.std.proofs.Common.{◌≡◌, ◌≢◌, ℕ, suc, ◌+◌, ◌<◌, add-one, drop, drop-cons, get_or, length, List, [], ◌∷◌, ◌++◌, Option, Some, None, Result, Ok, Err, refl, sym, ap, subst, ◌∙◌, inl, inr, append_assoc}
+use Rattle.std.specs.Prelude.{IfSome, IsTrue}
 use Rattle.std.specs.Io.KnownBytes.{append_known}
-use Rattle.std.specs.List.{concat}
+use Rattle.std.specs.List.{AllByRecursion, concat}
 use Rattle.outside.specs.Files.{Holding}
+use Rattle.journal.specs.declared.fault.OpenFault.{OpenFault}
+use Rattle.policy_ast.specs.declared.policy.PlacedItem.{PlacedItem}
+use Rattle.replica.specs.Disks.{Sense}
 use Rattle.script.specs.declared.line.Line.{Line}
+use Rattle.world.specs.Crashes.{AreSafe, IsOpenedOn, IsWhyNot, OpenWhole}
 use Rattle.world.specs.Lines.{Runs, Tags}
 use Rattle.world.specs.Stops.{Acts, LeavesFront}
-use Rattle.world.specs.Worlds.{Site}
+use Rattle.world.specs.Worlds.{AreUp, Site, disks_of}
 use Rattle.world.specs.declared.stop.RunStop.{RunStop}
 use Rattle.world.specs.declared.stop.RunStop.TheVariants as stop
-use Rattle.aranyad.specs.Checking.{Reads}
+use Rattle.aranyad.specs.Checking.{Checks, ReadsOr}
+use Rattle.aranyad.specs.Ending.{ReadHalts}
 use Rattle.aranyad.specs.Loading.{Holds}
-use Rattle.aranyad.specs.Printing.{Goes, Says}
-use Rattle.aranyad.specs.Scripts.{RanUpTo, RunsLines, RunsOpened}
+use Rattle.aranyad.specs.Printing.{Goes, HaltsAtOnce, Prints, Says}
+use Rattle.aranyad.specs.Scripts.{LeavesDisks, RanUpTo, RunsOpened, names_of}
 use Rattle.aranyad.specs.Scripts as scripts
 use Rattle.aranyad.specs.Written.{WritesFront}
-use Rattle.aranyad.specs.working.Following.{HaltsBy}
+use Rattle.aranyad.specs.working.Following.{EndsBy, RunsIn}
 use Rattle.aranyad.specs.declared.ending.Ending.{Ending}
 use Rattle.aranyad.specs.declared.ending.Ending.TheVariants as ending
 use Rattle.aranyad.specs.declared.ending.Halt.{Halt}
 use Rattle.aranyad.specs.declared.ending.Halt.TheVariants as halt
+use Rattle.aranyad.specs.declared.loading.Loaded.{Loaded}
+use Rattle.aranyad.specs.declared.loading.Loaded.TheVariants as loaded
+use Rattle.aranyad.proofs.Moments.{whole_same}
 use Rattle.aranyad.proofs.Pieces.{append_none, concat-one, wrote_piece}
 
 -- what a run of a part is, is what the run of the whole is
@@ -61,12 +69,34 @@ told_from None F P Q step f p = tt
 told_from (Some at) F P Q step f p = step at f p
 
 -- a file was read and taken for this, and what was made of that is what is owed
-pub read_goes : {L : Type 0} (holds : Option Holding) (file : Holding → Option (Option (List ℕ))) (IsOne : Option (List ℕ) → L → Type 0) (Makes : Holding → L → Result Ending Halt → List (List ℕ) → Type 0) (one : L)
+pub read_goes : {L : Type 0} (same : Type 0) (holds : Option Holding) (file : Holding → Option (Option (List ℕ))) (IsOne : Option (List ℕ) → L → Type 0) (Makes : Holding → L → Result Ending Halt → List (List ℕ) → Type 0) (one : L)
     (result : Result Ending Halt) (old new : Option (List ℕ)) → IfSome holds (λ at. Holds (file at) (λ bytes. IsOne bytes one)) → IfSome holds (λ at. Goes (Makes at one) result old new) →
-    IfSome holds (λ at. Goes (Reads (file at) (λ bytes r ts. (is : L) × IsOne bytes is × Makes at is r ts)) result old new)
-read_goes holds file IsOne Makes one result old new held goes =
+    IfSome holds (λ at. Goes (ReadsOr same (file at) (λ bytes r ts. (is : L) × IsOne bytes is × Makes at is r ts)) result old new)
+read_goes same holds file IsOne Makes one result old new held goes =
     told_from holds (λ at. Holds (file at) (λ bytes. IsOne bytes one)) (λ at. Goes (Makes at one) result old new) _
     (λ at h g. record { texts = g.texts; is = inr (h.0, h.1, (one, h.2, g.is)); printed = g.printed }) held goes
+
+-- a file wasn't read, and nothing was printed
+pub unread_goes : {T : Type 0} (same : Type 0) (file : Option (Option (List ℕ))) (makes : Option (List ℕ) → Result Ending Halt → List (List ℕ) → Type 0) (name : List ℕ) (before now : ℕ) (last : Option (List ℕ)) (why : Halt)
+    (old : Option (List ℕ)) → ReadHalts {T = T} name before now last (Err why) → same → Goes (ReadsOr same file makes) (Err why) old old
+unread_goes same file makes name before now last halt.Read old halts is = unread_at_once (ReadsOr same file makes) old (inl (refl, is))
+unread_goes same file makes name before now last halt.Write old halts is = absurd (halts.no_write refl)
+unread_goes same file makes name before now last halt.Disk old halts is = absurd (halts.no_disk refl)
+unread_goes same file makes name before now last halt.Seal old halts is = absurd (halts.no_seal refl)
+unread_goes same file makes name before now last halt.Memory old halts is = wants_at_once (ReadsOr same file makes) old (inl (refl, is))
+
+-- what is told of a policy is no refusal of a journal
+no_journal_said : (end : Ending) (line : List ℕ) (result : Result Ending Halt) (old new : Option (List ℕ)) → end ≢ ending.JournalRefused → Goes (Says end line) result old new → result ≢ Ok ending.JournalRefused
+no_journal_said end line result old new other goes = λ is. let said = subst (λ r. Says end line r goes.texts) is goes.is in other (sym said.0)
+
+pub no_journal_checked : (is : Loaded) (result : Result Ending Halt) (old new : Option (List ℕ)) → Goes (Checks is) result old new → result ≢ Ok ending.JournalRefused
+no_journal_checked loaded.TooLarge result old new goes = no_journal_said ending.TooLarge _ result old new (λ is. absurd cc) goes
+no_journal_checked (loaded.Refused line) result old new goes = no_journal_said ending.PolicyRefused _ result old new (λ is. absurd cc) goes
+no_journal_checked (loaded.Whole digest policy) result old new goes = no_journal_said ending.Done _ result old new (λ is. absurd cc) goes
+
+-- what is so beside a run of a part
+pub beside : (A : Result Ending Halt → List (List ℕ) → Type 0) (same : Type 0) (result : Result Ending Halt) (old new : Option (List ℕ)) → same → Goes A result old new → Goes (λ r ts. A r ts × same) result old new
+beside A same result old new is goes = record { texts = goes.texts; is = (goes.is, is); printed = goes.printed }
 
 -- ---- lines
 
@@ -98,28 +128,46 @@ module _ {D : Type 0} (tags : Tags) (first : Site D) (lines : List Line) (old : 
     printed = wrote_piece so_far.texts text old seen new so_far.printed more;
   }
 
+module _ {D : Type 0} (sense : Sense D) (tags : Tags) (first : Site D) (lines : List Line) (old : Option (List ℕ)) where
   pub line_broken : (one : Line) (behind : List Line) (text : List ℕ) (mid now : Site D) (seen new : Option (List ℕ)) → SoFar tags first lines old (one ∷ behind) mid seen → Runs tags mid one text now →
-      WritesFront text seen new → Goes (λ r ts. RunsLines tags first lines r ts now) (Err halt.Write) old new
-  line_broken one behind text mid now seen new so_far runs front = record {
+      LeavesDisks sense tags first lines now (disks_of now) → WritesFront text seen new → Goes (RunsIn sense tags first lines now) (Err halt.Write) old new
+  line_broken one behind text mid now seen new so_far runs left front = record {
     texts = so_far.texts ++ text ∷ [];
-    is = (behind, one_more one behind so_far.texts text mid now so_far.up_to runs);
+    is = ((behind, one_more tags first lines old one behind so_far.texts text mid now so_far.up_to runs), left);
     printed = record { before = so_far.texts; last = text; whole = refl; front = subst (λ known. WritesFront text known new) so_far.printed front };
   }
 
-  pub line_stopped : (one : Line) (behind : List Line) (mid now : Site D) (seen : Option (List ℕ)) (by : RunStop) (why : Halt) → SoFar tags first lines old (one ∷ behind) mid seen →
-      LeavesFront tags mid one now → (by ≡ stop.SealFault → Acts one) → HaltsBy by why → Goes (λ r ts. RunsLines tags first lines r ts now) (Err why) old seen
-  line_stopped one behind mid now seen stop.DiskFault why so_far front acts halts = absurd halts
-  line_stopped one behind mid now seen stop.SealFault why so_far front acts halts =
-      subst (λ w. Goes (λ r ts. RunsLines tags first lines r ts now) (Err w) old seen) (sym halts)
-      (record { texts = so_far.texts; is = (one, acts refl, record { behind = behind; mid = mid; up_to = so_far.up_to; front = front }); printed = so_far.printed })
-  line_stopped one behind mid now seen (stop.Journal name fault) why so_far front acts halts = absurd halts
-  line_stopped one behind mid now seen stop.NoMemory why so_far front acts halts =
-      subst (λ w. Goes (λ r ts. RunsLines tags first lines r ts now) (Err w) old seen) (sym halts)
-      (record { texts = so_far.texts; is = (one, record { behind = behind; mid = mid; up_to = so_far.up_to; front = front }); printed = so_far.printed })
+  -- nothing more was printed
+  quiet : (texts done : List (List ℕ)) (seen new : Option (List ℕ)) → texts ≡ [] → new ≡ append_known seen (concat texts) → seen ≡ append_known old (concat done) → new ≡ append_known old (concat done)
+  quiet texts done seen new none printed so_far = printed ∙ ap (λ ts. append_known seen (concat ts)) none ∙ append_none seen ∙ so_far
 
-  pub lines_done : (left : List Line) (now : Site D) (seen : Option (List ℕ)) → left ≡ [] → SoFar tags first lines old left now seen → Goes (λ r ts. RunsLines tags first lines r ts now) (Ok ending.Done) old seen
-  lines_done left now seen none so_far =
-      record { texts = so_far.texts; is = (refl, subst (λ l. RanUpTo tags first lines l so_far.texts now) none so_far.up_to); printed = so_far.printed }
+  pub line_stopped : (one : Line) (behind : List Line) (mid now : Site D) (seen new : Option (List ℕ)) (by : RunStop) (result : Result Ending Halt) → SoFar tags first lines old (one ∷ behind) mid seen →
+      LeavesDisks sense tags first lines now (disks_of now) → LeavesFront tags mid one now → (by ≡ stop.SealFault → Acts one) → ((name : List ℕ) (cause : OpenFault) → by ≡ stop.Journal name cause → ⊥) →
+      Goes (EndsBy by) result seen new → Goes (RunsIn sense tags first lines now) result old new
+  line_stopped one behind mid now seen new stop.DiskFault result so_far left front acts journals goes =
+      subst (λ r. Goes (RunsIn sense tags first lines now) r old new) (sym goes.is.0) (record {
+        texts = so_far.texts;
+        is = ((one, record { behind = behind; mid = mid; up_to = so_far.up_to; front = front }), left);
+        printed = quiet goes.texts so_far.texts seen new goes.is.1 (subst (λ r. Prints r goes.texts seen new) goes.is.0 goes.printed) so_far.printed;
+      })
+  line_stopped one behind mid now seen new stop.SealFault result so_far left front acts journals goes =
+      subst (λ r. Goes (RunsIn sense tags first lines now) r old new) (sym goes.is.0) (record {
+        texts = so_far.texts;
+        is = ((one, acts refl, record { behind = behind; mid = mid; up_to = so_far.up_to; front = front }), left);
+        printed = quiet goes.texts so_far.texts seen new goes.is.1 (subst (λ r. Prints r goes.texts seen new) goes.is.0 goes.printed) so_far.printed;
+      })
+  line_stopped one behind mid now seen new (stop.Journal name cause) result so_far left front acts journals goes = absurd (journals name cause refl)
+  line_stopped one behind mid now seen new stop.NoMemory result so_far left front acts journals goes =
+      subst (λ r. Goes (RunsIn sense tags first lines now) r old new) (sym goes.is.0) (record {
+        texts = so_far.texts;
+        is = ((one, record { behind = behind; mid = mid; up_to = so_far.up_to; front = front }), left);
+        printed = quiet goes.texts so_far.texts seen new goes.is.1 (subst (λ r. Prints r goes.texts seen new) goes.is.0 goes.printed) so_far.printed;
+      })
+
+  pub lines_done : (behind : List Line) (now : Site D) (seen : Option (List ℕ)) → behind ≡ [] → AreUp now.replicas → LeavesDisks sense tags first lines now (disks_of now) → SoFar tags first lines old behind now seen →
+      Goes (RunsIn sense tags first lines now) (Ok ending.Done) old seen
+  lines_done behind now seen none up left so_far =
+      record { texts = so_far.texts; is = ((refl, subst (λ l. RanUpTo tags first lines l so_far.texts now) none so_far.up_to, up), left); printed = so_far.printed }
 
 -- ---- the line at hand
 
@@ -134,8 +182,37 @@ front_as t u old new same front = subst (λ x. WritesFront x old new) same front
 pub printed_as : (t u : List ℕ) (old new : Option (List ℕ)) → t ≡ u → new ≡ append_known old t → new ≡ append_known old u
 printed_as t u old new same printed = printed ∙ ap (append_known old) same
 
--- the lines ran in the world that was opened
-pub opened_goes : {D : Type 0} (tags : Tags) (first world now : Site D) (lines : List Line) (result : Result Ending Halt) (old new : Option (List ℕ)) → world ≡ first →
-    Goes (λ r ts. RunsLines tags world lines r ts now) result old new → Goes (RunsOpened tags first lines) result old new
-opened_goes tags first world now lines result old new same goes =
-    record { texts = goes.texts; is = inr (now, subst (λ w. RunsLines tags w lines result goes.texts now) same goes.is); printed = goes.printed }
+-- ---- the world that is opened
+
+module _ {D : Type 0} (sense : Sense D) (tags : Tags) (policy : List PlacedItem) (digest : List ℕ) (disks : List D) (lines : List Line) where
+  -- the lines ran in the world that was opened
+  pub opened_goes : (first now : Site D) (left : List D) (result : Result Ending Halt) (old new : Option (List ℕ)) → IsOpenedOn sense tags.good policy digest (names_of lines) disks first →
+      OpenWhole sense tags.good policy digest disks (disks_of first) → AreSafe sense tags.good first.replicas → left ≡ disks_of now → Goes (RunsIn sense tags first lines now) result old new →
+      Goes (λ r ts. RunsOpened sense tags policy digest disks lines r ts left) result old new
+  opened_goes first now left result old new opened whole safe same goes = record {
+    texts = goes.texts;
+    is = inr (inr (first, now, opened, whole, safe, goes.is.0, subst (LeavesDisks sense tags first lines now) (sym same) goes.is.1));
+    printed = goes.printed;
+  }
+
+  -- it wasn't opened
+  pub unopened_goes : (why : RunStop) (left : List D) (result : Result Ending Halt) (old new : Option (List ℕ)) → IsWhyNot sense tags.good policy digest (names_of lines) disks why →
+      OpenWhole sense tags.good policy digest disks left → Goes (EndsBy why) result old new → Goes (λ r ts. RunsOpened sense tags policy digest disks lines r ts left) result old new
+  unopened_goes stop.DiskFault left result old new why whole goes =
+      record { texts = goes.texts; is = inl (subst (λ r. HaltsAtOnce r goes.texts) (sym goes.is.0) goes.is.1, whole); printed = goes.printed }
+  unopened_goes stop.SealFault left result old new why whole goes = absurd why
+  unopened_goes (stop.Journal name cause) left result old new why whole goes = record { texts = goes.texts; is = inr (inl (name, cause, why, goes.is, whole)); printed = goes.printed }
+  unopened_goes stop.NoMemory left result old new why whole goes =
+      record { texts = goes.texts; is = inl (subst (λ r. HaltsAtOnce r goes.texts) (sym goes.is.0) goes.is.1, whole); printed = goes.printed }
+
+  -- there was no memory for opening it
+  pub lacks_at_once : (old : Option (List ℕ)) → Goes (λ r ts. RunsOpened sense tags policy digest disks lines r ts disks) (Err halt.Memory) old old
+  lacks_at_once old = record { texts = []; is = inl (refl, whole_same sense tags.good policy digest disks); printed = sym (append_none old) }
+
+-- the same policy and disks under other names
+pub same_run : {D : Type 0} (sense : Sense D) (tags : Tags) (p q : List PlacedItem) (digest : List ℕ) (ds es left : List D) (lines : List Line) (result : Result Ending Halt) (old new : Option (List ℕ)) → p ≡ q → ds ≡ es →
+    (AllByRecursion (λ d. IsTrue (sense.honest d)) ds → Goes (λ r ts. RunsOpened sense tags p digest ds lines r ts left) result old new) → AllByRecursion (λ d. IsTrue (sense.honest d)) es →
+    Goes (λ r ts. RunsOpened sense tags q digest es lines r ts left) result old new
+same_run sense tags p q digest ds es left lines result old new same_policy same_disks goes honest =
+    subst (λ x. Goes (λ r ts. RunsOpened sense tags x digest es lines r ts left) result old new) same_policy
+    (subst (λ x. AllByRecursion (λ d. IsTrue (sense.honest d)) x → Goes (λ r ts. RunsOpened sense tags p digest x lines r ts left) result old new) same_disks goes honest)

@@ -32,13 +32,16 @@ with_file said word = if is_file_name word then Some (record said { files = said
 abbrev pub is_store_word : List ℕ → Bool
 is_store_word word = bytes_eq (take 8 word) (codes "--store=")
 
+-- `--store=DIR`, or the name of a file
+abbrev pub with_other : RunWords → List ℕ → Option RunWords
+with_other said word = if is_store_word word then with_store said (drop 8 word) else with_file said word
+
 -- `--store`, and then DIR
 abbrev pub with_word : RunWords → List ℕ → Option RunWords
 with_word said word =
     if said.asks then with_store said word
     else if bytes_eq word (codes "--store") then Some (record said { asks = true })
-    else if is_store_word word then with_store said (drop 8 word)
-    else with_file said word
+    else with_other said word
 
 abbrev pub run_words : RunWords → List (List ℕ) → Option RunWords
 run_words said [] = Some said

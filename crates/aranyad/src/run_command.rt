@@ -1,7 +1,6 @@
-ghost use Rattle.std.specs.Prelude.{◌≡◌, ◌≢◌, ⊥, ℕ, None, Some, Ok, Err, IfSome, IsTrue, length};
+ghost use Rattle.std.specs.Prelude.{◌≡◌, ◌≢◌, ℕ, None, Some, Ok, Err, IfSome, IsTrue, length};
 ghost use Rattle.std.specs.List.{AllByRecursion};
 ghost use Rattle.script_texts.specs.Modes as modes;
-ghost use Rattle.world.specs.Lines.{Tags};
 ghost use Rattle.world.specs.Stops.{SomeRose};
 ghost use Rattle.aranyad.specs.Ending.{HasCause, HaltsWithCause, IsGiven, RunsScripts, counts, status_of};
 ghost use Rattle.aranyad.specs.Modes.{mode_of};
@@ -32,11 +31,15 @@ fn run_mode<F: Files, D: Disk, E: Envelope, K: Sink>(
     out: &mut K,
 ) -> Result<Ending, Halt>
     requires enough { length disks.old.items ≡ 8 }
-    ensures goes { IfSome (F.holds files.old) (λ at. Goes (RunsMode (record { good = E.good; told = E.tag_of }) disks.old.items at (Some mode)) result (K.written out.old) (K.written out.new)) }
-    ensures disks { disks.new.items ≡ disks.old.items }
-    ensures cause { HaltsWithCause (counts (F.faults files.old) (E.faults env.old) (K.faults out.old)) (counts (F.faults files.new) (E.faults env.new) (K.faults out.new)) result }
+    ensures goes { IsTrue D.tells → AllByRecursion (λ d. IsTrue (D.honest d)) disks.old.items
+        → IfSome (F.holds files.old) (λ at. Goes (RunsMode (record { tells = D.tells; content = D.content; honest = D.honest }) (record { good = E.good; told = E.tag_of }) disks.old.items disks.new.items at (Some mode)) result (K.written out.old) (K.written out.new)) }
+    ensures disks { length disks.new.items ≡ 8 }
+    ensures unused { (RunsScripts (Some mode) → ⊥) → disks.new.items ≡ disks.old.items }
+    ensures cause { HaltsWithCause (SomeRose D.faults disks.old.items disks.new.items) (counts (F.faults files.old) (E.faults env.old) (K.faults out.old)) (counts (F.faults files.new) (E.faults env.new) (K.faults out.new)) result }
     ensures given { result ≡ Err halt.Read → IsGiven (Some mode) (F.last files.new) }
-    ensures seals { result ≡ Err halt.Seal → MaySeal (Some mode) }
+    ensures seals { result ≡ Err halt.Seal → RunsScripts (Some mode) }
+    ensures faults { result ≡ Err halt.Disk → RunsScripts (Some mode) }
+    ensures journals { result ≡ Ok ending.JournalRefused → RunsScripts (Some mode) }
 {
     match mode {
         Mode::Check(policy) => check_file(alloc, policy, files, out),
@@ -56,9 +59,12 @@ fn run_words<F: Files, D: Disk, E: Envelope, K: Sink>(
     out: &mut K,
 ) -> Result<Ending, Halt>
     requires enough { length disks.old.items ≡ 8 }
-    ensures goes { IfSome (F.holds files.old) (λ at. Goes (RunsMode (record { good = E.good; told = E.tag_of }) disks.old.items at (mode_of words.now)) result (K.written out.old) (K.written out.new)) }
-    ensures disks { disks.new.items ≡ disks.old.items }
-    ensures cause { HasCause (mode_of words.now) (counts (F.faults files.old) (E.faults env.old) (K.faults out.old)) (counts (F.faults files.new) (E.faults env.new) (K.faults out.new)) (F.last files.new) (status_of result) }
+    ensures goes { IsTrue D.tells → AllByRecursion (λ d. IsTrue (D.honest d)) disks.old.items
+        → IfSome (F.holds files.old) (λ at. Goes (RunsMode (record { tells = D.tells; content = D.content; honest = D.honest }) (record { good = E.good; told = E.tag_of }) disks.old.items disks.new.items at (mode_of words.now)) result (K.written out.old) (K.written out.new)) }
+    ensures disks { length disks.new.items ≡ 8 }
+    ensures unused { (RunsScripts (mode_of words.now) → ⊥) → disks.new.items ≡ disks.old.items }
+    ensures cause { HasCause (mode_of words.now) (counts (F.faults files.old) (E.faults env.old) (K.faults out.old)) (counts (F.faults files.new) (E.faults env.new) (K.faults out.new))
+        (SomeRose D.faults disks.old.items disks.new.items) (F.last files.new) (status_of result) }
     ensures no_mode { mode_of words.now ≡ None → Goes (Says ending.Usage modes.usage_text) result (K.written out.old) (K.written out.new) }
 {
     match choose(alloc, words) {

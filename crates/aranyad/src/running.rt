@@ -1,19 +1,22 @@
 //! The lines of a script, run in a world of the replicas that they declare.
 
-ghost use Rattle.std.specs.Prelude.{◌≡◌, ◌⊎◌, ◌<◌, ◌≤◌, ℕ, List, Ok, Err, IfOk, length};
-ghost use Rattle.outside.specs.Causes.{Rose};
-ghost use Rattle.world.specs.Lines.{Tags};
-ghost use Rattle.world.specs.Worlds.{Site, disks_of, opened};
+ghost use Rattle.std.specs.Prelude.{◌≡◌, ◌<◌, ◌≤◌, ℕ, All, List, Ok, Err, IfOk, IsTrue, length};
+ghost use Rattle.std.specs.List.{AllByRecursion};
+ghost use Rattle.policy_ast.specs.declared.policy.PlacedItem.{PlacedItem};
+ghost use Rattle.world.specs.Crashes.{AreSafe};
+ghost use Rattle.world.specs.Stops.{NoneFell, SomeRose};
+ghost use Rattle.world.specs.Worlds.{AreUp, disks_of};
 ghost use Rattle.aranyad.specs.Ending.{LinesHalt};
-ghost use Rattle.aranyad.specs.Printing.{Goes, HaltsAtOnce};
-ghost use Rattle.aranyad.specs.Scripts.{RunsLines, RunsOpened, names_of};
-ghost use Rattle.aranyad.specs.working.Following.{FollowIn, HaltsBy, IsPlain};
+ghost use Rattle.aranyad.specs.Printing.{Goes};
+ghost use Rattle.aranyad.specs.Scripts.{RunsOpened, names_of};
+ghost use Rattle.aranyad.specs.working.Following.{EndsBy, FollowIn, IsPlainStop, RunsIn, StopHalts};
 ghost use Rattle.script.specs.Scripts.{IsScript};
 
 use crate::ending::{Ending, Halt};
 use crate::names::names_of;
 use crate::printing::write_all;
 use crate::shared_runner::{SharedRunner, shares};
+use crate::telling::refuse_journal;
 use base_bytes::{Bytes, Id, NoMemory, Steps, Text};
 use command::Graph;
 use fact_layers::LayeredFacts;
@@ -30,15 +33,17 @@ use std::mem;
 use std::sync::ledger::{Blank, Ledger};
 use world::{RunStop, World};
 
-/// What halts a run whose world stopped so.
-fn halted(stop: RunStop) -> Halt
-    requires plain { IsPlain stop }
-    ensures { HaltsBy stop result }
+/// How a run ends whose world stopped so. A journal that is refused is told.
+fn end_stopped<K: Sink>(alloc: Global, stop: RunStop, out: &mut K) -> Result<Ending, Halt>
+    requires plain { IsPlainStop stop }
+    ensures goes { Goes (EndsBy stop) result (K.written out.old) (K.written out.new) }
+    ensures cause { StopHalts stop (K.faults out.old) (K.faults out.new) result }
 {
     match stop {
-        RunStop::SealFault => Halt::Seal,
-        RunStop::NoMemory => Halt::Memory,
-        _ => unreachable!(),
+        RunStop::DiskFault => Err(Halt::Disk),
+        RunStop::SealFault => Err(Halt::Seal),
+        RunStop::Journal(name, cause) => refuse_journal(alloc, &name, &cause, out),
+        RunStop::NoMemory => Err(Halt::Memory),
     }
 }
 
@@ -52,15 +57,17 @@ fn run_lines<R: Runner, G: Graph, F: FactBase, D: Disk, E: Envelope, K: Sink, L:
     steps: &mut Steps<L>,
 ) -> Result<Ending, Halt>
     requires placed { FollowIn world.old lines.now }
-    ensures goes { Goes (λ r ts. RunsLines (record { good = E.good; told = E.tag_of }) world.old lines.now r ts world.new) result (K.written out.old) (K.written out.new) }
-    ensures disks { disks_of world.new ≡ disks_of world.old }
-    ensures cause { LinesHalt (E.faults env.old) (E.faults env.new) (K.faults out.old) (K.faults out.new) result }
+    requires up { AreUp world.old.replicas }
+    ensures goes { AreSafe (record { tells = D.tells; content = D.content; honest = D.honest }) E.good world.old.replicas
+        → Goes (RunsIn (record { tells = D.tells; content = D.content; honest = D.honest }) (record { good = E.good; told = E.tag_of }) world.old lines.now world.new) result (K.written out.old) (K.written out.new) }
+    ensures disks { NoneFell D.faults (disks_of world.old) (disks_of world.new) }
+    ensures cause { LinesHalt (SomeRose D.faults (disks_of world.old) (disks_of world.new)) (E.faults env.old) (E.faults env.new) (K.faults out.old) (K.faults out.new) result }
 {
     for line in lines {
         let mut text = Bytes::new(alloc);
         match world.step(alloc, line, env, &mut text, steps) {
             Ok(()) => {}
-            Err(stop) => return Err(halted(stop)),
+            Err(stop) => return end_stopped(alloc, stop, out),
         }
         match write_all(out, text.as_slice()) {
             Ok(()) => {}
@@ -70,7 +77,41 @@ fn run_lines<R: Runner, G: Graph, F: FactBase, D: Disk, E: Envelope, K: Sink, L:
     Ok(Ending::Done)
 }
 
-/// Runs a script's lines in the world of the replicas that they declare, each empty and on the disk at its place. The disks are handed back.
+/// Runs a script's lines in the world of these replicas, each opened on the disk at its place, and hands all disks back.
+fn run_opened<R: Runner, G: Graph, F: FactBase, D: Disk, E: Envelope, K: Sink, L: Ledger>(
+    alloc: Global,
+    runners: Vec<R>,
+    names: &[Text],
+    digest: &Id,
+    lines: &[Line],
+    disks: Vec<D>,
+    env: &mut E,
+    out: &mut K,
+    blank: Blank,
+) -> (Result<Ending, Halt>, Vec<D>)
+    requires name { blank.name ≡ L.name }
+    requires parts { blank.parts ≡ L.parts }
+    requires some { 0 < L.parts }
+    requires runners { length runners.items ≡ length names.now }
+    requires rules { (policy : List PlacedItem) × All (λ r. R.rules r ≡ policy) runners.items }
+    requires names { names.now ≡ names_of lines.now }
+    requires enough { length disks.items ≡ 8 }
+    requires script { (bytes : List ℕ) × IsScript bytes lines.now }
+    ensures goes { (policy : List PlacedItem) → All (λ r. R.rules r ≡ policy) runners.items → IsTrue D.tells → AllByRecursion (λ d. IsTrue (D.honest d)) disks.items
+        → Goes (λ r ts. RunsOpened (record { tells = D.tells; content = D.content; honest = D.honest }) (record { good = E.good; told = E.tag_of }) policy digest.now disks.items lines.now r ts result.1.items) result.0 (K.written out.old) (K.written out.new) }
+    ensures disks { NoneFell D.faults disks.items result.1.items }
+    ensures cause { LinesHalt (SomeRose D.faults disks.items result.1.items) (E.faults env.old) (E.faults env.new) (K.faults out.old) (K.faults out.new) result.0 }
+{
+    let mut world = match World::<R, G, F, D>::open_world(alloc, runners, names, digest, disks, env) {
+        Ok(world) => world,
+        Err((stop, disks)) => return (end_stopped(alloc, stop, out), disks),
+    };
+    let mut steps = Steps::<L>::start(blank);
+    let result = run_lines(alloc, &mut world, lines, env, out, &mut steps);
+    (result, world.into_disks())
+}
+
+/// Runs a script's lines in the world of the replicas that they declare, each opened on the disk at its place. The disks are handed back.
 pub fn run_world<D: Disk, E: Envelope, K: Sink, L: Ledger>(
     alloc: Global,
     digest: &Id,
@@ -86,29 +127,31 @@ pub fn run_world<D: Disk, E: Envelope, K: Sink, L: Ledger>(
     requires some { 0 < L.parts }
     requires enough { length disks.old.items ≡ 8 }
     requires script { (bytes : List ℕ) × IsScript bytes lines.now }
-    ensures goes { Goes (RunsOpened (record { good = E.good; told = E.tag_of }) (opened policy digest.now (names_of lines.now) disks.old.items) lines.now) result (K.written out.old) (K.written out.new) }
-    ensures disks { disks.new.items ≡ disks.old.items }
-    ensures cause { LinesHalt (E.faults env.old) (E.faults env.new) (K.faults out.old) (K.faults out.new) result }
+    ensures goes { IsTrue D.tells → AllByRecursion (λ d. IsTrue (D.honest d)) disks.old.items
+        → Goes (λ r ts. RunsOpened (record { tells = D.tells; content = D.content; honest = D.honest }) (record { good = E.good; told = E.tag_of }) policy digest.now disks.old.items lines.now r ts disks.new.items) result (K.written out.old) (K.written out.new) }
+    ensures disks { length disks.new.items ≡ 8 }
+    ensures cause { LinesHalt (SomeRose D.faults disks.old.items disks.new.items) (E.faults env.old) (E.faults env.new) (K.faults out.old) (K.faults out.new) result }
 {
-    let names = names_of(alloc, lines)?;
-    let runners = shares(alloc, TreeRunner::new(policy), names.len())?;
+    let names = match names_of(alloc, lines) {
+        Ok(names) => names,
+        Err(NoMemory) => return Err(Halt::Memory),
+    };
+    let runners = match shares(alloc, TreeRunner::new(policy), names.len()) {
+        Ok(runners) => runners,
+        Err(NoMemory) => return Err(Halt::Memory),
+    };
     let own = mem::replace(disks, Vec::new(alloc));
-    let mut world = match World::<SharedRunner<TreeRunner>, ListGraph, LayeredFacts, D>::open_world(
+    let (result, own) = run_opened::<SharedRunner<TreeRunner>, ListGraph, LayeredFacts, D, E, K, L>(
         alloc,
         runners,
         names.as_slice(),
         digest,
+        lines,
         own,
         env,
-    ) {
-        Ok(world) => world,
-        Err((stop, own)) => {
-            *disks = own;
-            return Err(halted(stop));
-        }
-    };
-    let mut steps = Steps::<L>::start(blank);
-    let result = run_lines(alloc, &mut world, lines, env, out, &mut steps);
-    *disks = world.into_disks();
+        out,
+        blank,
+    );
+    *disks = own;
     result
 }

@@ -1,7 +1,8 @@
 //! The mode `run`, stage by stage: each stage gives a value, and touches the devices that it needs.
 
-ghost use Rattle.std.specs.Prelude.{◌≡◌, ◌⊎◌, Some, Err, IfSome, length};
-ghost use Rattle.world.specs.Lines.{Tags};
+ghost use Rattle.std.specs.Prelude.{◌≡◌, ◌⊎◌, Some, Err, IfSome, IsTrue, length};
+ghost use Rattle.std.specs.List.{AllByRecursion};
+ghost use Rattle.world.specs.Stops.{SomeRose};
 ghost use Rattle.aranyad.specs.Ending.{HaltsWithCause, LinesHalt, counts};
 ghost use Rattle.aranyad.specs.Loading.{ArePlaced, limited, policy_limit, script_limit};
 ghost use Rattle.aranyad.specs.Printing.{Goes};
@@ -33,9 +34,10 @@ fn run_script<D: Disk, E: Envelope, K: Sink>(
 ) -> Result<Ending, Halt>
     requires enough { length disks.old.items ≡ 8 }
     requires placed { ArePlaced script.now }
-    ensures goes { Goes (RunsWorld (record { good = E.good; told = E.tag_of }) disks.old.items digest.now policy script.now) result (K.written out.old) (K.written out.new) }
-    ensures disks { disks.new.items ≡ disks.old.items }
-    ensures cause { LinesHalt (E.faults env.old) (E.faults env.new) (K.faults out.old) (K.faults out.new) result }
+    ensures goes { IsTrue D.tells → AllByRecursion (λ d. IsTrue (D.honest d)) disks.old.items
+        → Goes (RunsWorld (record { tells = D.tells; content = D.content; honest = D.honest }) (record { good = E.good; told = E.tag_of }) disks.old.items disks.new.items digest.now policy script.now) result (K.written out.old) (K.written out.new) }
+    ensures disks { length disks.new.items ≡ 8 }
+    ensures cause { LinesHalt (SomeRose D.faults disks.old.items disks.new.items) (E.faults env.old) (E.faults env.new) (K.faults out.old) (K.faults out.new) result }
 {
     match script {
         Script::TooLarge => refuse_large(alloc, Input::Script, out),
@@ -65,10 +67,11 @@ fn run_whole<F: Files, D: Disk, E: Envelope, K: Sink>(
     out: &mut K,
 ) -> Result<Ending, Halt>
     requires enough { length disks.old.items ≡ 8 }
-    ensures goes { IfSome (F.holds files.old) (λ at. Goes (RunsScriptFile (record { good = E.good; told = E.tag_of }) disks.old.items (limited script_limit (at script)) digest.now policy)
+    ensures goes { IsTrue D.tells → AllByRecursion (λ d. IsTrue (D.honest d)) disks.old.items
+        → IfSome (F.holds files.old) (λ at. Goes (RunsScriptFile (record { tells = D.tells; content = D.content; honest = D.honest }) (record { good = E.good; told = E.tag_of }) disks.old.items disks.new.items (limited script_limit (at script)) digest.now policy)
         result (K.written out.old) (K.written out.new)) }
-    ensures disks { disks.new.items ≡ disks.old.items }
-    ensures cause { HaltsWithCause (counts (F.faults files.old) (E.faults env.old) (K.faults out.old)) (counts (F.faults files.new) (E.faults env.new) (K.faults out.new)) result }
+    ensures disks { length disks.new.items ≡ 8 }
+    ensures cause { HaltsWithCause (SomeRose D.faults disks.old.items disks.new.items) (counts (F.faults files.old) (E.faults env.old) (K.faults out.old)) (counts (F.faults files.new) (E.faults env.new) (K.faults out.new)) result }
     ensures last { result ≡ Err halt.Read → F.last files.new ≡ Some script }
 {
     match load_script(alloc, files, script) {
@@ -88,10 +91,11 @@ fn run_loaded<F: Files, D: Disk, E: Envelope, K: Sink>(
     out: &mut K,
 ) -> Result<Ending, Halt>
     requires enough { length disks.old.items ≡ 8 }
-    ensures goes { IfSome (F.holds files.old) (λ at. Goes (RunsPolicy (record { good = E.good; told = E.tag_of }) disks.old.items (limited script_limit (at script)) policy)
+    ensures goes { IsTrue D.tells → AllByRecursion (λ d. IsTrue (D.honest d)) disks.old.items
+        → IfSome (F.holds files.old) (λ at. Goes (RunsPolicy (record { tells = D.tells; content = D.content; honest = D.honest }) (record { good = E.good; told = E.tag_of }) disks.old.items disks.new.items (limited script_limit (at script)) policy)
         result (K.written out.old) (K.written out.new)) }
-    ensures disks { disks.new.items ≡ disks.old.items }
-    ensures cause { HaltsWithCause (counts (F.faults files.old) (E.faults env.old) (K.faults out.old)) (counts (F.faults files.new) (E.faults env.new) (K.faults out.new)) result }
+    ensures disks { length disks.new.items ≡ 8 }
+    ensures cause { HaltsWithCause (SomeRose D.faults disks.old.items disks.new.items) (counts (F.faults files.old) (E.faults env.old) (K.faults out.old)) (counts (F.faults files.new) (E.faults env.new) (K.faults out.new)) result }
     ensures last { result ≡ Err halt.Read → F.last files.new ≡ Some script }
 {
     match policy {
@@ -114,10 +118,11 @@ pub fn run_files<F: Files, D: Disk, E: Envelope, K: Sink>(
     out: &mut K,
 ) -> Result<Ending, Halt>
     requires enough { length disks.old.items ≡ 8 }
-    ensures goes { IfSome (F.holds files.old) (λ at. Goes (RunsFiles (record { good = E.good; told = E.tag_of }) disks.old.items (limited policy_limit (at policy)) (limited script_limit (at script)))
+    ensures goes { IsTrue D.tells → AllByRecursion (λ d. IsTrue (D.honest d)) disks.old.items
+        → IfSome (F.holds files.old) (λ at. Goes (RunsFiles (record { tells = D.tells; content = D.content; honest = D.honest }) (record { good = E.good; told = E.tag_of }) disks.old.items disks.new.items (limited policy_limit (at policy)) (limited script_limit (at script)))
         result (K.written out.old) (K.written out.new)) }
-    ensures disks { disks.new.items ≡ disks.old.items }
-    ensures cause { HaltsWithCause (counts (F.faults files.old) (E.faults env.old) (K.faults out.old)) (counts (F.faults files.new) (E.faults env.new) (K.faults out.new)) result }
+    ensures disks { length disks.new.items ≡ 8 }
+    ensures cause { HaltsWithCause (SomeRose D.faults disks.old.items disks.new.items) (counts (F.faults files.old) (E.faults env.old) (K.faults out.old)) (counts (F.faults files.new) (E.faults env.new) (K.faults out.new)) result }
     ensures last { result ≡ Err halt.Read → (F.last files.new ≡ Some policy) ⊎ (F.last files.new ≡ Some script) }
 {
     match load_policy(alloc, files, policy) {

@@ -1,0 +1,58 @@
+use Rattle.std.proofs.Common.{subst}
+use Rattle.replica.specs.Disks.{Sense}
+use Rattle.world.specs.Crashes.{IsOpenedOn, IsWhyNot}
+use Rattle.world.specs.Lines.{Tags}
+use Rattle.world.specs.Worlds.{disks_of}
+use Rattle.aranyad.proofs.Followings.{names_fit}
+use Rattle.aranyad.proofs.Goings.{opened_goes, unopened_goes}
+use Rattle.aranyad.proofs.Moments.{plain_opening, world_follows}
+use Rattle.aranyad.proofs.Rises.{fell_from, halts_from, unopened_halts}
+use Rattle.aranyad.proofs.running.run_opened.Goals as goal
+
+pub open_world-requires-clause-disks : goal.open_world-requires-clause-disks
+open_world-requires-clause-disks g c = names_fit c.requires.script.0 c.args.lines.now c.args.names.now c.args.disks.items c.requires.script.1 c.requires.names c.requires.enough
+
+pub end_stopped-requires : goal.end_stopped-requires
+end_stopped-requires g c =
+    let sense : Sense g.row.D.Denot = record { tells = g.D.Disk.tells; content = g.D.Disk.content; honest = g.D.Disk.honest } in
+    record {
+      plain = plain_opening sense g.E.Envelope.good c.requires.rules.0 c.args.digest.now c.args.names.now c.args.disks.items c.in-Err.stop (c.in-Err.ensures.opens c.requires.rules.0 c.requires.rules.1);
+    }
+
+pub returns-in-Err-clause-goes : goal.returns-in-Err-clause-goes
+returns-in-Err-clause-goes g c = λ policy rules told honest.
+    let sense : Sense g.row.D.Denot = record { tells = g.D.Disk.tells; content = g.D.Disk.content; honest = g.D.Disk.honest } in
+    let tags : Tags = record { good = g.E.Envelope.good; told = g.E.Envelope.tag_of } in
+    unopened_goes sense tags policy c.args.digest.now c.args.disks.items c.args.lines.now c.in-Err.stop c.in-Err.disks.items c.end_stopped.result _ _
+    (subst (λ ns. IsWhyNot sense g.E.Envelope.good policy c.args.digest.now ns c.args.disks.items c.in-Err.stop) c.requires.names (c.in-Err.ensures.opens policy rules))
+    (c.in-Err.ensures.crash policy rules told honest).0 c.end_stopped.ensures.goes
+
+pub returns-in-Err-clause-cause : goal.returns-in-Err-clause-cause
+returns-in-Err-clause-cause g c = unopened_halts g.D.Disk.faults c.args.disks.items c.in-Err.disks.items _ _ _ c.in-Err.stop c.end_stopped.result c.in-Err.ensures.cause c.end_stopped.ensures.cause
+
+pub run_lines-result-requires : goal.run_lines-result-requires
+run_lines-result-requires g c =
+    let sense : Sense g.row.D.Denot = record { tells = g.D.Disk.tells; content = g.D.Disk.content; honest = g.D.Disk.honest } in
+    record {
+      placed = world_follows sense g.E.Envelope.good c.requires.rules.0 c.args.digest.now c.requires.script.0 c.args.lines.now c.args.names.now c.args.disks.items c.in-Ok.world c.requires.script.1 c.requires.names
+          (c.in-Ok.ensures.opens c.requires.rules.0 c.requires.rules.1);
+      up = c.in-Ok.ensures.up;
+    }
+
+pub returns-clause-goes : goal.returns-clause-goes
+returns-clause-goes g c = λ policy rules told honest.
+    let sense : Sense g.row.D.Denot = record { tells = g.D.Disk.tells; content = g.D.Disk.content; honest = g.D.Disk.honest } in
+    let tags : Tags = record { good = g.E.Envelope.good; told = g.E.Envelope.tag_of } in
+    let crash = c.in-Ok.ensures.crash policy rules told honest in
+    opened_goes sense tags policy c.args.digest.now c.args.disks.items c.args.lines.now c.in-Ok.world c.run_lines-result.new.world c.into_disks.result.items c.run_lines-result.result _ _
+    (subst (λ ns. IsOpenedOn sense g.E.Envelope.good policy c.args.digest.now ns c.args.disks.items c.in-Ok.world) c.requires.names (c.in-Ok.ensures.opens policy rules))
+    crash.0 crash.1 c.into_disks.ensures (c.run_lines-result.ensures.goes crash.1)
+
+pub returns-clause-disks : goal.returns-clause-disks
+returns-clause-disks g c =
+    fell_from g.D.Disk.faults c.args.disks.items (disks_of c.in-Ok.world) (disks_of c.run_lines-result.new.world) c.into_disks.result.items c.in-Ok.ensures.disks c.run_lines-result.ensures.disks c.into_disks.ensures
+
+pub returns-clause-cause : goal.returns-clause-cause
+returns-clause-cause g c =
+    halts_from g.D.Disk.faults c.args.disks.items (disks_of c.in-Ok.world) (disks_of c.run_lines-result.new.world) c.into_disks.result.items _ _ _ _ c.run_lines-result.result c.in-Ok.ensures.disks
+    c.into_disks.ensures c.run_lines-result.ensures.cause
