@@ -2,7 +2,7 @@
 use Rattle.std.proofs.Common.{Bool, true, false, ◌≡◌, ◌||◌, ℕ, List, ◌∷◌, refl, ap, ◌∙◌}
 use Rattle.std.specs.List.{list_any}
 use Rattle.std.specs.Str.{bytes_eq}
-use Rattle.graph_set.specs.working.Held.{AreAdded, IsAdded}
+use Rattle.graph_over.specs.working.Ids.{AreAdded, IsAdded}
 
 either_of_three : (a b c : Bool) → ((a || b) || c) ≡ (a || (b || c))
 either_of_three true b c = refl

@@ -13,7 +13,7 @@ use Rattle.command.specs.Wire.{command_id}
 use Rattle.command.proofs.ClosedFacts.{held_more, parents_held, same_bytes}
 use Rattle.command.proofs.ListFacts.{each_left, each_right}
 use Rattle.command.proofs.ReachFacts.{any_found}
-use Rattle.graph_set.proofs.HeadFacts.{named}
+use Rattle.graph_over.proofs.GatheredHeads.{named}
 use Rattle.graph_over.specs.working.Heads.{place_left, places_left}
 use Rattle.graph_over.proofs.PlaceFacts.{at_behind}
 

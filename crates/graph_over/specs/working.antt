@@ -1,3 +1,4 @@
 -- What serves the contracts of private functions, or a trait's law. Nobody has to read it who reads the promises.
 pub mod Added
 pub mod Heads
+pub mod Ids

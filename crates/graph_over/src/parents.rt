@@ -2,14 +2,12 @@ ghost use Rattle.std.specs.Prelude.{◌≡◌, ◌||◌, if◌then◌else◌, �
 ghost use Rattle.std.specs.List.{list_any};
 ghost use Rattle.std.specs.Str.{bytes_eq};
 ghost use Rattle.command.specs.Kinds.{parents_of};
-ghost use Rattle.graph_set.specs.working.Held.{AreAdded, IsAdded};
+ghost use Rattle.graph_over.specs.working.Ids.{AreAdded, IsAdded};
 
 use base_bytes::{Id, NoMemory};
 use command::{Command, Places};
 use indexmap::IndexSet;
 use std::alloc::Global;
-
-// These stand in graph_set too, to be exported there.
 
 /// Puts the parents of the command among the ids.
 pub fn add_parents(ids: &mut IndexSet<Id>, command: &Command) -> Result<(), NoMemory>

@@ -3,7 +3,7 @@ use Rattle.std.specs.List.{list_any}
 use Rattle.std.specs.Str.{bytes_eq}
 use Rattle.std.proofs.lemmas.Option.{slice_get-get_or}
 use Rattle.command.specs.Kinds.{parents_of}
-use Rattle.graph_set.proofs.HeadFacts.{one_more}
+use Rattle.graph_over.proofs.GatheredHeads.{one_more}
 use Rattle.graph_over.proofs.heads.parents_of_all.Goals as goal
 
 pub loop-command-preserved : goal.loop-command-preserved

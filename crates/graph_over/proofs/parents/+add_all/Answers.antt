@@ -1,5 +1,5 @@
 use Rattle.std.proofs.Common.{subst, sym}
-use Rattle.graph_set.specs.working.Held.{AreAdded}
+use Rattle.graph_over.specs.working.Ids.{AreAdded}
 use Rattle.graph_over.proofs.AddedIds.{first_added}
 use Rattle.graph_over.proofs.parents.+add_all.Goals as goal
 

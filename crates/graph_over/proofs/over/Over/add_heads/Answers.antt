@@ -3,7 +3,7 @@ use Rattle.std.specs.List.{list_any}
 use Rattle.std.specs.Str.{bytes_eq}
 use Rattle.std.proofs.lemmas.List.{drop_at}
 use Rattle.command.specs.Ancestors.{places_without}
-use Rattle.graph_set.proofs.HeadFacts.{next_place, last_place}
+use Rattle.graph_over.proofs.GatheredHeads.{next_place, last_place}
 use Rattle.graph_over.proofs.over.Over.add_heads.Goals as goal
 
 pub loop-place-init : goal.loop-place-init
