@@ -1,78 +1,82 @@
 -- What a line's function says of its own line is what is asked of every line.
-use Rattle.std.proofs.Common.{◌≡◌, false, true, List, codes, length, Option, Result, Ok, Err, refl, sym, ap, subst, ◌∙◌}
+use Rattle.std.proofs.Common.{◌≡◌, ◌+◌, ◌≤◌, ℕ, Bool, false, true, List, codes, length, Option, Result, Ok, Err, refl, sym, ap, subst, ◌∙◌}
 use Rattle.std.proofs.lemmas.List.{length-map}
 use Rattle.base_bytes.specs.declared.arg.Arg.{Arg}
+use Rattle.journal.specs.declared.fault.OpenFault.{OpenFault}
+use Rattle.outside.specs.Causes.{Rose}
 use Rattle.replica.specs.Calls.{ActsIn, Begins}
+use Rattle.replica.specs.Disks.{IsTrusted, Sense}
 use Rattle.script.specs.declared.line.Line.{Line}
 use Rattle.script.specs.declared.line.Line.TheVariants as line
 use Rattle.script_texts.specs.Bytes.{Bytes}
-use Rattle.world.specs.Lines.{RunsAction, RunsJoin, Tags, action_of}
-use Rattle.world.specs.Stops.{RunsOrStops, SomeOf}
-use Rattle.world.specs.Worlds.{Named, Site}
+use Rattle.world.specs.Lines.{RunsAction, RunsJoin, RunsRestart, RunsSync, RunsTake, Tags, action_of}
+use Rattle.world.specs.Stops.{Acts, Came, IsSteady, RefusesJournal, SomeOf}
+use Rattle.world.specs.Worlds.{Named, Of, message_at}
 use Rattle.world.specs.declared.stop.RunStop.{RunStop}
-use Rattle.world.specs.working.Rounds.{Syncs}
-use Rattle.world.specs.working.Running.{Changing, NoneOf, RunsIn}
-use Rattle.world.proofs.KeepFacts.{Keeps}
-use Rattle.world.proofs.LineFacts.{changing_keeps, changing_runs}
+use Rattle.world.specs.working.Fitting.{Fits}
+use Rattle.world.specs.working.Handling.{Handles, RefusesAt}
+use Rattle.world.specs.working.Running.{Changing, FrontOf, NoneOf, RunsIn}
+use Rattle.world.specs.working.Stopping.{NoJournal}
+use Rattle.world.proofs.HandleFacts.{handles_more}
+use Rattle.world.proofs.PlaceFacts.{names_stay}
 
-module _ {D : Type 0} (tags : Tags) (messages : List (Option Bytes)) (old : List (Named D)) (result : Result Bytes RunStop) (new : List (Named D)) (one : Line) where
-  by_line : (other : Line) → one ≡ other → Changing (RunsIn tags messages other) (SomeOf tags other) old result new → Changing (RunsIn tags messages one) (SomeOf tags one) old result new
-  by_line other same runs = subst (λ l. Changing (RunsIn tags messages l) (SomeOf tags l) old result new) (sym same) runs
+module _ {D : Type 0} (tags : Tags) (messages : List (Option Bytes)) (sense : Sense D) (faults : D → ℕ) (before now : ℕ) (old : List (Named D)) (result : Result Bytes RunStop) (new : List (Named D)) where
+  changes_to : (runs others : List (Named D) → Bytes → List (Named D) → Type 0) (some more : List (Named D) → List (Named D) → Type 0) → ((text : Bytes) (l : List (Named D)) → runs old text l → others old text l)
+      → ((l : List (Named D)) → FrontOf runs some old l → FrontOf others more old l) → (r : Result Bytes RunStop) → Changing runs some old r new → Changing others more old r new
+  changes_to runs others some more to front (Ok text) is = to text new is
+  changes_to runs others some more to front (Err s) leaves = record { replicas = leaves.replicas; is_front = front leaves.replicas leaves.is_front; alike = leaves.alike }
 
-init_in : {D : Type 0} (tags : Tags) (messages : List (Option Bytes)) (old : List (Named D)) (result : Result Bytes RunStop) (new : List (Named D)) (a f : Bytes) (args : List Arg)
-    → Changing (RunsAction (codes "init") a (λ kept. Begins kept tags.good tags.told (action_of f args true))) NoneOf old result new
-    → Changing (RunsIn tags messages (line.Init a f args)) (SomeOf tags (line.Init a f args)) old result new
-init_in tags messages old (Ok text) new a f args runs = runs
-init_in tags messages old (Err why) new a f args runs = runs
+  -- of one that is no restart, and refuses no journal
+  arm : (sealed : Type 0) (runs : List (Named D) → Bytes → List (Named D) → Type 0) (some : List (Named D) → List (Named D) → Type 0) (one : Line) → (sealed → Acts one × Rose before now)
+      → ((text : Bytes) (l : List (Named D)) → runs old text l → RunsIn tags messages one old text l) → ((l : List (Named D)) → FrontOf runs some old l → FrontOf (RunsIn tags messages one) (SomeOf tags one) old l)
+      → Changing runs some old result new → Handles sense tags.good faults sealed NoJournal (FrontOf runs some old) old result new → Fits tags messages sense faults before now old result new one
+  arm sealed runs some one seal to front goes disks = record {
+    goes = λ steady. changes_to runs (RunsIn tags messages one) some (SomeOf tags one) to front result goes;
+    disks = handles_more sense tags.good faults sealed (Acts one × Rose before now) NoJournal (RefusesJournal sense tags.good old one) (FrontOf runs some old) (FrontOf (RunsIn tags messages one) (SomeOf tags one) old) old result new
+        seal (λ n c none. absurd none) front disks;
+  }
 
-act_in : {D : Type 0} (tags : Tags) (messages : List (Option Bytes)) (old : List (Named D)) (result : Result Bytes RunStop) (new : List (Named D)) (a f : Bytes) (args : List Arg)
-    → Changing (RunsAction (codes "act") a (λ kept. ActsIn kept tags.good tags.told (action_of f args false))) NoneOf old result new
-    → Changing (RunsIn tags messages (line.Act a f args)) (SomeOf tags (line.Act a f args)) old result new
-act_in tags messages old (Ok text) new a f args runs = runs
-act_in tags messages old (Err why) new a f args runs = runs
+  pub init_arm : (one : Line) (a f : Bytes) (args seen : List Arg) → one ≡ line.Init a f args → seen ≡ args
+      → Changing (RunsAction (codes "init") a (λ kept. Begins kept tags.good tags.told (action_of f seen true))) NoneOf old result new
+      → Handles sense tags.good faults (Rose before now) NoJournal (FrontOf (RunsAction (codes "init") a (λ kept. Begins kept tags.good tags.told (action_of f seen true))) NoneOf old) old result new → Fits tags messages sense faults before now old result new one
+  init_arm one a f args seen is same goes disks =
+      subst (Fits tags messages sense faults before now old result new) (ap (line.Init a f) same ∙ sym is)
+      (arm (Rose before now) (RunsAction (codes "init") a (λ kept. Begins kept tags.good tags.told (action_of f seen true))) NoneOf (line.Init a f seen) (λ rose. (tt, rose)) (λ text l runs. runs) (λ l front. front) goes disks)
 
-join_in : {D : Type 0} (tags : Tags) (messages : List (Option Bytes)) (old : List (Named D)) (result : Result Bytes RunStop) (new : List (Named D)) (a b : Bytes)
-    → Changing (RunsJoin a b) NoneOf old result new → Changing (RunsIn tags messages (line.Join a b)) (SomeOf tags (line.Join a b)) old result new
-join_in tags messages old (Ok text) new a b runs = runs
-join_in tags messages old (Err why) new a b runs = runs
+  pub act_arm : (one : Line) (a f : Bytes) (args seen : List Arg) → one ≡ line.Act a f args → seen ≡ args
+      → Changing (RunsAction (codes "act") a (λ kept. ActsIn kept tags.good tags.told (action_of f seen false))) NoneOf old result new
+      → Handles sense tags.good faults (Rose before now) NoJournal (FrontOf (RunsAction (codes "act") a (λ kept. ActsIn kept tags.good tags.told (action_of f seen false))) NoneOf old) old result new → Fits tags messages sense faults before now old result new one
+  act_arm one a f args seen is same goes disks =
+      subst (Fits tags messages sense faults before now old result new) (ap (line.Act a f) same ∙ sym is)
+      (arm (Rose before now) (RunsAction (codes "act") a (λ kept. ActsIn kept tags.good tags.told (action_of f seen false))) NoneOf (line.Act a f seen) (λ rose. (tt, rose)) (λ text l runs. runs) (λ l front. front) goes disks)
 
-sync_in : {D : Type 0} (tags : Tags) (messages : List (Option Bytes)) (old : List (Named D)) (result : Result Bytes RunStop) (new : List (Named D)) (a b : Bytes)
-    → Syncs tags a b old result new → Changing (RunsIn tags messages (line.Sync a b)) (SomeOf tags (line.Sync a b)) old result new
-sync_in tags messages old (Ok text) new a b runs = runs
-sync_in tags messages old (Err why) new a b runs = runs
+  pub join_arm : (one : Line) (a b : Bytes) → one ≡ line.Join a b → Changing (RunsJoin a b) NoneOf old result new → Handles sense tags.good faults ⊥ NoJournal (FrontOf (RunsJoin a b) NoneOf old) old result new → Fits tags messages sense faults before now old result new one
+  join_arm one a b is goes disks = subst (Fits tags messages sense faults before now old result new) (sym is) (arm ⊥ (RunsJoin a b) NoneOf (line.Join a b) (λ none. absurd none) (λ text l runs. runs) (λ l front. front) goes disks)
 
-module _ {D : Type 0} (tags : Tags) (messages : List (Option Bytes)) (old : List (Named D)) (result : Result Bytes RunStop) (new : List (Named D)) (one : Line) where
-  -- the arguments may be seen through a slice
-  pub init_arm : (a f : Bytes) (args seen : List Arg) → one ≡ line.Init a f args → seen ≡ args
-      → Changing (RunsAction (codes "init") a (λ kept. Begins kept tags.good tags.told (action_of f seen true))) NoneOf old result new → Changing (RunsIn tags messages one) (SomeOf tags one) old result new
-  init_arm a f args seen is same runs =
-      by_line tags messages old result new one (line.Init a f args) is
-      (init_in tags messages old result new a f args (subst (λ xs. Changing (RunsAction (codes "init") a (λ kept. Begins kept tags.good tags.told (action_of f xs true))) NoneOf old result new) same runs))
+  pub sync_arm : (one : Line) (a b : Bytes) → one ≡ line.Sync a b → Changing (RunsSync tags a b) (Came tags a b) old result new
+      → Handles sense tags.good faults ⊥ NoJournal (FrontOf (RunsSync tags a b) (Came tags a b) old) old result new → Fits tags messages sense faults before now old result new one
+  sync_arm one a b is goes disks = subst (Fits tags messages sense faults before now old result new) (sym is) (arm ⊥ (RunsSync tags a b) (Came tags a b) (line.Sync a b) (λ none. absurd none) (λ text l runs. runs) (λ l front. front) goes disks)
 
-  pub act_arm : (a f : Bytes) (args seen : List Arg) → one ≡ line.Act a f args → seen ≡ args
-      → Changing (RunsAction (codes "act") a (λ kept. ActsIn kept tags.good tags.told (action_of f seen false))) NoneOf old result new → Changing (RunsIn tags messages one) (SomeOf tags one) old result new
-  act_arm a f args seen is same runs =
-      by_line tags messages old result new one (line.Act a f args) is
-      (act_in tags messages old result new a f args (subst (λ xs. Changing (RunsAction (codes "act") a (λ kept. ActsIn kept tags.good tags.told (action_of f xs false))) NoneOf old result new) same runs))
+  pub take_arm : (one : Line) (a : Bytes) (n : ℕ) (message : Option Bytes) → one ≡ line.Take a n → message ≡ message_at messages n → Changing (RunsTake tags a message) NoneOf old result new
+      → Handles sense tags.good faults ⊥ NoJournal (FrontOf (RunsTake tags a message) NoneOf old) old result new → Fits tags messages sense faults before now old result new one
+  take_arm one a n message is same goes disks =
+      subst (Fits tags messages sense faults before now old result new) (sym is)
+      (arm ⊥ (RunsTake tags a (message_at messages n)) NoneOf (line.Take a n) (λ none. absurd none) (λ text l runs. runs) (λ l front. front)
+      (subst (λ m. Changing (RunsTake tags a m) NoneOf old result new) same goes)
+      (subst (λ m. Handles sense tags.good faults ⊥ NoJournal (FrontOf (RunsTake tags a m) NoneOf old) old result new) same disks))
 
-  pub join_arm : (a b : Bytes) → one ≡ line.Join a b → Changing (RunsJoin a b) NoneOf old result new → Changing (RunsIn tags messages one) (SomeOf tags one) old result new
-  join_arm a b is runs = by_line tags messages old result new one (line.Join a b) is (join_in tags messages old result new a b runs)
-
-  pub sync_arm : (a b : Bytes) → one ≡ line.Sync a b → Syncs tags a b old result new → Changing (RunsIn tags messages one) (SomeOf tags one) old result new
-  sync_arm a b is runs = by_line tags messages old result new one (line.Sync a b) is (sync_in tags messages old result new a b runs)
-
--- ---- the same of a world
-
-module _ {D : Type 0} (tags : Tags) (one : Line) (replicas after : List (Named D)) (result : Result Bytes RunStop) where
-  pub site_runs : (old : Site D) (messages seen : List (Option Bytes)) (spare : List D) → old ≡ record { replicas = replicas; messages = messages; spare = spare } → seen ≡ messages
-      → Changing (RunsIn tags seen one) (SomeOf tags one) replicas result after → RunsOrStops tags old one result (record { replicas = after; messages = messages; spare = spare })
-  site_runs old messages seen spare is same runs =
-      subst (λ (site : Site D). RunsOrStops tags site one result (record { replicas = after; messages = messages; spare = spare })) (sym is)
-      (changing_runs tags (record { replicas = replicas; messages = messages; spare = spare }) (record { replicas = after; messages = messages; spare = spare }) one result (refl, refl)
-      (subst (λ ms. Changing (RunsIn tags ms one) (SomeOf tags one) replicas result after) same runs))
+  pub restart_arm : (one : Line) (a : Bytes) → one ≡ line.Restart a → (Of old a (IsTrusted tags.good sense) → Changing (RunsRestart a) NoneOf old result new)
+      → Handles sense tags.good faults ⊥ (RefusesAt sense tags.good old a) (FrontOf (RunsRestart a) NoneOf old) old result new → Fits tags messages sense faults before now old result new one
+  restart_arm one a is goes disks =
+      subst (Fits tags messages sense faults before now old result new) (sym is) (record {
+        goes = λ steady. changes_to (RunsRestart a) (RunsIn tags messages (line.Restart a)) NoneOf (SomeOf tags (line.Restart a)) (λ text l runs. runs) (λ l front. front) result (goes steady);
+        disks = handles_more sense tags.good faults ⊥ (Acts (line.Restart a) × Rose before now) (RefusesAt sense tags.good old a) (RefusesJournal sense tags.good old (line.Restart a)) (FrontOf (RunsRestart a) NoneOf old)
+            (FrontOf (RunsIn tags messages (line.Restart a)) (SomeOf tags (line.Restart a)) old) old result new (λ none. absurd none) (λ n c refuses. named n c refuses) (λ l front. front) disks;
+      })
+    where
+      named : (n : List ℕ) (c : OpenFault) → RefusesAt sense tags.good old a n c → RefusesJournal sense tags.good old (line.Restart a) n c
+      named n c (same, refused, of) = subst (λ m. RefusesJournal sense tags.good old (line.Restart a) m c) (sym same) (refl, refused, of)
 
   -- as many replicas as before
-  pub as_many : (messages : List (Option Bytes)) → Changing (RunsIn tags messages one) (SomeOf tags one) replicas result after → length after ≡ length replicas
-  as_many messages runs =
-      let keeps : Keeps replicas after = changing_keeps tags messages one replicas result after runs in
-      sym (length-map after (λ r. r.name)) ∙ ap length keeps.names ∙ length-map replicas (λ r. r.name)
+  pub as_many : (sealed : Type 0) (refused : List ℕ → OpenFault → Type 0) (reached : List (Named D) → Type 0) → Handles sense tags.good faults sealed refused reached old result new → length new ≡ length old
+  as_many sealed refused reached h = sym (length-map new (λ r. r.name)) ∙ ap length (names_stay faults old new h.later) ∙ length-map old (λ r. r.name)

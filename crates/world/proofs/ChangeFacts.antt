@@ -1,134 +1,231 @@
 -- A call changes a replica as its line says, or not at all.
-use Rattle.std.proofs.Common.{◌≡◌, ◌⊎◌, inl, inr, ℕ, Bool, List, [], ◌∷◌, codes, length, Option, Some, Result, Ok, Err, IfOk, refl, sym, ap, subst, ◌∙◌}
-use Rattle.replica.specs.Calls.{ActsIn, Answers, Asks, AsksNext, Begins, Joins, TakesIn}
+use Rattle.std.proofs.Common.{◌≡◌, ◌⊎◌, inl, inr, ℕ, Bool, List, [], ◌∷◌, codes, length, Option, None, Some, IsSome, Result, Ok, Err, IfErr, IfOk, refl, sym, ap, subst, ◌∙◌}
+use Rattle.braid_run.specs.States.{Held}
+use Rattle.replica.specs.Actions.{IsFault}
+use Rattle.replica.specs.Calls.{Answers, Asks, AsksNext, ActsIn, Begins, IsActionOf, IsTakeOf, Joins, TakesIn, basis_of}
+use Rattle.replica.specs.Disks.{Sense}
 use Rattle.replica.specs.Kept.{Kept}
+use Rattle.replica.specs.Messages.{IsResponseRead}
+use Rattle.replica.specs.Steps.{IsStep}
 use Rattle.replica.specs.declared.counts.Published.{Published}
 use Rattle.replica.specs.declared.counts.Taken.{Taken}
 use Rattle.replica.specs.declared.refusal.Refusal.{Refusal}
+use Rattle.replica.specs.declared.refusal.Refusal.TheVariants as refusal
 use Rattle.script_texts.specs.Bytes.{Bytes}
+use Rattle.script_texts.specs.Replies.{no_message_text}
 use Rattle.sync_codec.specs.Messages.{IsResponse}
 use Rattle.sync_codec.specs.declared.response.Response.{Response}
 use Rattle.transaction.specs.Acting.{Request as Action}
-use Rattle.world.specs.Lines.{JoinsGraph, RunsAction, RunsJoin, RunsRestart, RunsTake, SaysAnswer, SaysAsk, SaysNext, Tags, graph_to_join}
-use Rattle.world.specs.Replies.{asked_line, joined_line, message_of, next_line, next_message_of, published_line, refused_line, restarted_line, taken_line}
-use Rattle.world.specs.Worlds.{Changes, Named, Of, with_kept}
+use Rattle.transaction.specs.declared.fault.ActFault.TheVariants as fault
+use Rattle.world.specs.Lines.{JoinsGraph, RunsAction, RunsJoin, RunsTake, SaysAnswer, SaysAsk, SaysNext, Tags, graph_to_join}
+use Rattle.world.specs.Replies.{asked_line, joined_line, message_of, next_line, next_message_of, published_line, refused_line, taken_line}
+use Rattle.world.specs.Worlds.{AreAlike, AreUp, Changes, Named, Of, kept_of, with_kept}
 use Rattle.world.specs.declared.said.Said.{Said}
 use Rattle.world.specs.declared.stop.RunStop.{RunStop}
-use Rattle.world.specs.working.Running.{Changing, Making, NoneOf}
-use Rattle.world.specs.working.Words.{AnswerWords, Words, WordsAndMessage, WordsBy}
-use Rattle.world.proofs.CauseFacts.{answers_mild, asks_mild, mild_memory, next_mild}
-use Rattle.world.proofs.PlaceFacts.{unchanged}
+use Rattle.world.specs.declared.stop.RunStop.TheVariants as stop
+use Rattle.world.specs.working.Handling.{Handles, IsDiskFault, Treats}
+use Rattle.world.specs.working.Running.{Changing, FrontOf, LeavesAlike, Making, NoneOf, Showing}
+use Rattle.world.specs.working.Stopping.{IsCausedBy, NoJournal}
+use Rattle.world.specs.working.Words.{AnswerWords, Words, WordsAndMessage, WordsBy, refusal_of}
+use Rattle.world.proofs.CauseFacts.{answers_mild, asks_mild, fault_caused, is_mild, mild_caused, mild_memory, next_mild, read_mild, refused_join_alone}
+use Rattle.world.proofs.HandleFacts.{handles, handles_more, handles_still, step_alike, weathers_step}
+use Rattle.world.proofs.PlaceFacts.{alike_at, alike_same, up_of}
 
--- ---- a reply's line: it is there, or nothing was changed
+-- ---- a reply's line: it is there, or nothing was changed but the disk
 
-same_kept : {D : Type 0} (old : List (Named D)) (name : Bytes) (goes : Kept D → Kept D → Type 0) (new : List (Named D))
-    → ((before after : Kept D) → goes before after → after ≡ before) → Changes old name goes new → new ≡ old
-same_kept old name goes new same (before, after, is, does, set) = set ∙ ap (with_kept old name) (same before after does) ∙ unchanged old name before is
+module _ {D : Type 0} (sense : Sense D) (good : List ℕ → List ℕ → List ℕ → Bool) (faults : D → ℕ) where
+  -- the call alone
+  pub call_of : {T : Type 0} (goes : Kept D → Kept D → Type 0) (reply : Result T Refusal) (old : List (Named D)) (name : Bytes) (new : List (Named D))
+      → Changes old name (λ before after. goes before after × Treats sense good faults before after reply) new → Changes old name goes new
+  call_of goes reply old name new (before, after, is, both, set) = (before, after, is, both.0, set)
 
-changing_by : {T D : Type 0} (reply : Result T Refusal) (said : Option Bytes) (runs : List (Named D) → Bytes → List (Named D) → Type 0) (old : List (Named D)) (result : Result Bytes RunStop) (new : List (Named D))
-    → ((new ≡ old) ⊎ ((text : Bytes) × (said ≡ Some text))) → Words reply said result → ((text : Bytes) → said ≡ Some text → runs old text new) → Changing runs NoneOf old result new
-changing_by reply said runs old (Ok text) new front words to = to text words
-changing_by reply said runs old (Err why) new (inl same) words to = inl same
-changing_by reply said runs old (Err why) new (inr (text, is)) words to = inr (inl (text, to text is))
+  refused_alike : {T : Type 0} (gives : Kept D → T → Held → Type 0) (refuses : Kept D → Refusal → Type 0) (old : List (Named D)) (name : Bytes) (why : Refusal) (new : List (Named D))
+      → Changes old name (λ before after. IsStep before (gives before) (refuses before) (Err why) after × Treats sense good faults {T = T} before after (Err why)) new → AreAlike old new
+  refused_alike gives refuses old name why new (before, after, is, (step, treats), set) =
+      subst (AreAlike old) (sym set) (alike_at old name before after is (step_alike before (gives before) (refuses before) why after step))
 
-module _ {D : Type 0} where
-  init_front : (good : List ℕ → List ℕ → List ℕ → Bool) (told : Option (List ℕ → List ℕ → List ℕ)) (action : Action) (t u : ℕ) (verb name : Bytes) (reply : Result Published Refusal) (old new : List (Named D))
-      → Changes old name (λ before after. Begins before good told action t u reply after) new → (new ≡ old) ⊎ ((text : Bytes) × (published_line verb name reply ≡ Some text))
-  init_front good told action t u verb name (Ok r) old new changes = inr (_, refl)
-  init_front good told action t u verb name (Err why) old new changes = inl (same_kept old name (λ before after. Begins before good told action t u (Err why) after) new (λ before after step. step.0) changes)
+  changing_step : {T : Type 0} (gives : Kept D → T → Held → Type 0) (refuses : Kept D → Refusal → Type 0) (said : Result T Refusal → Option Bytes) (runs : List (Named D) → Bytes → List (Named D) → Type 0)
+      (old : List (Named D)) (name : Bytes) (reply : Result T Refusal) (result : Result Bytes RunStop) (new : List (Named D))
+      → Changes old name (λ before after. IsStep before (gives before) (refuses before) reply after × Treats sense good faults before after reply) new
+      → ((r : T) → (text : Bytes) × (said (Ok r) ≡ Some text)) → WordsBy (refusal_of reply) (said reply) result → ((text : Bytes) → said reply ≡ Some text → runs old text new) → Changing runs NoneOf old result new
+  changing_step gives refuses said runs old name reply (Ok text) new changes spoken words to = to text words
+  changing_step gives refuses said runs old name (Ok r) (Err s) new changes spoken words to =
+      record { replicas = new; is_front = inr (inl ((spoken r).0, to (spoken r).0 (spoken r).1)); alike = alike_same new }
+  changing_step gives refuses said runs old name (Err why) (Err s) new changes spoken words to =
+      record { replicas = old; is_front = inl refl; alike = refused_alike gives refuses old name why new changes }
 
-  pub init_changes : (good : List ℕ → List ℕ → List ℕ → Bool) (told : Option (List ℕ → List ℕ → List ℕ)) (action : Action) (t u : ℕ) (verb name : Bytes) (reply : Result Published Refusal) (old : List (Named D)) (result : Result Bytes RunStop) (new : List (Named D))
-      → Changes old name (λ before after. Begins before good told action t u reply after) new → Words reply (published_line verb name reply) result
-      → Changing (RunsAction verb name (λ kept. Begins kept good told action)) NoneOf old result new
-  init_changes good told action t u verb name reply old result new changes words =
-      changing_by reply (published_line verb name reply) (RunsAction verb name (λ kept. Begins kept good told action)) old result new
-      (init_front good told action t u verb name reply old new changes) words (λ text is. (reply, (t, u), changes, is))
+  -- ---- actions
 
-  act_front : (good : List ℕ → List ℕ → List ℕ → Bool) (told : Option (List ℕ → List ℕ → List ℕ)) (action : Action) (t u : ℕ) (verb name : Bytes) (reply : Result Published Refusal) (old new : List (Named D))
-      → Changes old name (λ before after. ActsIn before good told action t u reply after) new → (new ≡ old) ⊎ ((text : Bytes) × (published_line verb name reply ≡ Some text))
-  act_front good told action t u verb name (Ok r) old new changes = inr (_, refl)
-  act_front good told action t u verb name (Err why) old new changes = inl (same_kept old name (λ before after. ActsIn before good told action t u (Err why) after) new (λ before after step. step.0) changes)
+  module _ (told : Option (List ℕ → List ℕ → List ℕ)) (action : Action) (t u : ℕ) (verb name : Bytes) (reply : Result Published Refusal) (old : List (Named D)) (result : Result Bytes RunStop) (new : List (Named D)) where
+    begin_gives : Kept D → Published → Held → Type 0
+    begin_gives kept counts held = (kept.held.graph_id ≡ None) × IsActionOf kept good told action t u counts held
 
-  pub act_changes : (good : List ℕ → List ℕ → List ℕ → Bool) (told : Option (List ℕ → List ℕ → List ℕ)) (action : Action) (t u : ℕ) (verb name : Bytes) (reply : Result Published Refusal) (old : List (Named D)) (result : Result Bytes RunStop) (new : List (Named D))
-      → Changes old name (λ before after. ActsIn before good told action t u reply after) new → Words reply (published_line verb name reply) result
-      → Changing (RunsAction verb name (λ kept. ActsIn kept good told action)) NoneOf old result new
-  act_changes good told action t u verb name reply old result new changes words =
-      changing_by reply (published_line verb name reply) (RunsAction verb name (λ kept. ActsIn kept good told action)) old result new
-      (act_front good told action t u verb name reply old new changes) words (λ text is. (reply, (t, u), changes, is))
+    begin_refuses : Kept D → Refusal → Type 0
+    begin_refuses kept why = (IsSome kept.held.graph_id × (why ≡ refusal.HasGraph)) ⊎ ((kept.held.graph_id ≡ None) × IsFault (basis_of kept good told) kept.held.rows action t u why)
 
-  take_front : (good : List ℕ → List ℕ → List ℕ → Bool) (bytes name : Bytes) (reply : Result Taken Refusal) (old new : List (Named D))
-      → Changes old name (λ before after. TakesIn before good bytes reply after) new → (new ≡ old) ⊎ ((text : Bytes) × (taken_line name reply ≡ Some text))
-  take_front good bytes name (Ok r) old new changes = inr (_, refl)
-  take_front good bytes name (Err why) old new changes = inl (same_kept old name (λ before after. TakesIn before good bytes (Err why) after) new (λ before after step. step.0) changes)
+    pub init_changes : Changes old name (λ before after. Begins before good told action t u reply after × Treats sense good faults before after reply) new → Words reply (published_line verb name reply) result
+        → Changing (RunsAction verb name (λ kept. Begins kept good told action)) NoneOf old result new
+    unfolding begin_gives begin_refuses
+    init_changes changes words =
+        changing_step begin_gives begin_refuses (published_line verb name) (RunsAction verb name (λ kept. Begins kept good told action)) old name reply result new changes (λ r. (_, refl)) words
+        (λ text is. (reply, (t, u), call_of (λ before after. Begins before good told action t u reply after) reply old name new changes, is))
 
-  pub take_changes : (tags : Tags) (bytes name : Bytes) (reply : Result Taken Refusal) (old : List (Named D)) (result : Result Bytes RunStop) (new : List (Named D))
-      → Changes old name (λ before after. TakesIn before tags.good bytes reply after) new → Words reply (taken_line name reply) result
-      → Changing (RunsTake tags name (Some bytes)) NoneOf old result new
-  take_changes tags bytes name reply old result new changes words =
-      changing_by reply (taken_line name reply) (RunsTake tags name (Some bytes)) old result new
-      (take_front tags.good bytes name reply old new changes) words (λ text is. (reply, changes, is))
+    pub init_handles : (sealed : Type 0) → AreUp old → (IfErr reply (λ why. why ≡ refusal.Act fault.SealFault → sealed))
+        → Changes old name (λ before after. Begins before good told action t u reply after × Treats sense good faults before after reply) new → Words reply (published_line verb name reply) result
+        → Handles sense good faults sealed NoJournal (FrontOf (RunsAction verb name (λ kept. Begins kept good told action)) NoneOf old) old result new
+    unfolding begin_gives begin_refuses
+    init_handles sealed up rose changes words =
+        let reached : List (Named D) → Type 0 = FrontOf (RunsAction verb name (λ kept. Begins kept good told action)) NoneOf old in
+        handles sense good reached faults sealed old name reply new up (inl refl)
+        (weathers_step sense good faults reached sealed begin_gives begin_refuses old name reply new up (inl refl) (λ before failed why is because. caused before failed why is because)
+        (λ before r held is own given. inr (inl (_, (Ok r, (t, u), (before, record before { held = held; down = None }, is, (own, (held, given, record { same = refl })), refl), refl)))) changes)
+        NoJournal (published_line verb name reply) result (λ fell. ap (published_line verb name) fell.1) words
+      where
+        caused : (before : Kept D) (failed : Type 0) (why : Refusal) → reply ≡ Err why → begin_refuses before why → IsCausedBy sealed failed why
+        caused before failed why is (inl (has, same)) = subst (IsCausedBy sealed failed) (sym same) tt
+        caused before failed why is (inr (none, because)) =
+            fault_caused sealed failed (basis_of before good told) before.held.rows action t u why because (subst (λ r. IfErr r (λ w. w ≡ refusal.Act fault.SealFault → sealed)) is rose)
 
-  join_front : (id name : Bytes) (reply : Result (Unit {0}) Refusal) (old new : List (Named D))
-      → Changes old name (λ before after. Joins before {T = Unit {0}} id reply after) new → (new ≡ old) ⊎ ((text : Bytes) × (joined_line name reply ≡ Some text))
-  join_front id name (Ok r) old new changes = inr (_, refl)
-  join_front id name (Err why) old new changes = inl (same_kept old name (λ before after. Joins before {T = Unit {0}} id (Err why) after) new (λ before after step. step.0) changes)
+    pub act_changes : Changes old name (λ before after. ActsIn before good told action t u reply after × Treats sense good faults before after reply) new → Words reply (published_line verb name reply) result
+        → Changing (RunsAction verb name (λ kept. ActsIn kept good told action)) NoneOf old result new
+    act_changes changes words =
+        changing_step (λ kept. IsActionOf kept good told action t u) (λ kept. IsFault (basis_of kept good told) kept.held.rows action t u) (published_line verb name) (RunsAction verb name (λ kept. ActsIn kept good told action)) old name reply
+        result new changes (λ r. (_, refl)) words (λ text is. (reply, (t, u), call_of (λ before after. ActsIn before good told action t u reply after) reply old name new changes, is))
 
-  pub join_changes : (id name : Bytes) (reply : Result (Unit {0}) Refusal) (old : List (Named D)) (result : Result Bytes RunStop) (new : List (Named D))
-      → Changes old name (λ before after. Joins before {T = Unit {0}} id reply after) new → Words reply (joined_line name reply) result
-      → Changing (JoinsGraph name (Ok id)) NoneOf old result new
-  join_changes id name reply old result new changes words =
-      changing_by reply (joined_line name reply) (JoinsGraph name (Ok id)) old result new
-      (join_front id name reply old new changes) words (λ text is. (reply, changes, is))
+    pub act_handles : (sealed : Type 0) → AreUp old → (IfErr reply (λ why. why ≡ refusal.Act fault.SealFault → sealed))
+        → Changes old name (λ before after. ActsIn before good told action t u reply after × Treats sense good faults before after reply) new → Words reply (published_line verb name reply) result
+        → Handles sense good faults sealed NoJournal (FrontOf (RunsAction verb name (λ kept. ActsIn kept good told action)) NoneOf old) old result new
+    act_handles sealed up rose changes words =
+        let reached : List (Named D) → Type 0 = FrontOf (RunsAction verb name (λ kept. ActsIn kept good told action)) NoneOf old in
+        handles sense good reached faults sealed old name reply new up (inl refl)
+        (weathers_step sense good faults reached sealed (λ kept. IsActionOf kept good told action t u) (λ kept. IsFault (basis_of kept good told) kept.held.rows action t u) old name reply new up (inl refl)
+        (λ before failed why is because.
+            fault_caused sealed failed (basis_of before good told) before.held.rows action t u why because (subst (λ r. IfErr r (λ w. w ≡ refusal.Act fault.SealFault → sealed)) is rose))
+        (λ before r held is own given. inr (inl (_, (Ok r, (t, u), (before, record before { held = held; down = None }, is, (own, (held, given, record { same = refl })), refl), refl)))) changes)
+        NoJournal (published_line verb name reply) result (λ fell. ap (published_line verb name) fell.1) words
 
-  -- ---- lines that make a message
+  -- ---- takes
 
-  pub ask_says : (replicas : List (Named D)) (a : Bytes) (number : ℕ) (reply : Result Bytes Refusal) (result : Result Said RunStop)
+  module _ (told : Option (List ℕ → List ℕ → List ℕ)) (bytes name : Bytes) (reply : Result Taken Refusal) (old : List (Named D)) (result : Result Bytes RunStop) (new : List (Named D)) where
+    pub take_changes : Changes old name (λ before after. TakesIn before good bytes reply after × Treats sense good faults before after reply) new → Words reply (taken_line name reply) result
+        → Changing (RunsTake (record { good = good; told = told }) name (Some bytes)) NoneOf old result new
+    take_changes changes words =
+        changing_step (λ kept. IsTakeOf kept good bytes) (λ kept why. IsResponseRead bytes kept.held.graph_id (Err why)) (taken_line name) (RunsTake (record { good = good; told = told }) name (Some bytes)) old name reply result new changes
+        (λ r. (_, refl)) words (λ text is. (reply, call_of (λ before after. TakesIn before good bytes reply after) reply old name new changes, is))
+
+    pub take_handles : (sealed : Type 0) → AreUp old → Changes old name (λ before after. TakesIn before good bytes reply after × Treats sense good faults before after reply) new → Words reply (taken_line name reply) result
+        → Handles sense good faults sealed NoJournal (FrontOf (RunsTake (record { good = good; told = told }) name (Some bytes)) NoneOf old) old result new
+    take_handles sealed up changes words =
+        let reached : List (Named D) → Type 0 = FrontOf (RunsTake (record { good = good; told = told }) name (Some bytes)) NoneOf old in
+        handles sense good reached faults sealed old name reply new up (inl refl)
+        (weathers_step sense good faults reached sealed (λ kept. IsTakeOf kept good bytes) (λ kept why. IsResponseRead bytes kept.held.graph_id (Err why)) old name reply new up (inl refl)
+        (λ before failed why is because. mild_caused sealed failed why (read_mild _ _ bytes before.held.graph_id why because))
+        (λ before r held is own given. inr (inl (_, (Ok r, (before, record before { held = held; down = None }, is, (own, (held, given, record { same = refl })), refl), refl)))) changes)
+        NoJournal (taken_line name reply) result (λ fell. ap (taken_line name) fell.1) words
+
+  -- a message that wasn't made
+  module _ (tags : Tags) (name : Bytes) (old : List (Named D)) (result : Result Bytes RunStop) where
+    showing_stop : (says : Bytes → Type 0) (r : Result Bytes RunStop) → Showing says r → IfErr r (λ s. s ≡ stop.NoMemory)
+    showing_stop says (Ok text) is = tt
+    showing_stop says (Err s) is = is
+
+    untaken_by : (r : Result Bytes RunStop) → Showing (λ text. text ≡ no_message_text (codes "take") (name ∷ [])) r → Changing (RunsTake tags name None) NoneOf old r old
+    untaken_by (Ok text) is = (is, refl)
+    untaken_by (Err s) is = record { replicas = old; is_front = inl refl; alike = alike_same old }
+
+    pub untaken_changes : (message : Option Bytes) → message ≡ None → Showing (λ text. text ≡ no_message_text (codes "take") (name ∷ [])) result → Changing (RunsTake tags name message) NoneOf old result old
+    untaken_changes message none is = subst (λ m. Changing (RunsTake tags name m) NoneOf old result old) (sym none) (untaken_by result is)
+
+    pub untaken_handles : (message : Option Bytes) (sealed : Type 0) → AreUp old → Showing (λ text. text ≡ no_message_text (codes "take") (name ∷ [])) result
+        → Handles sense good faults sealed NoJournal (FrontOf (RunsTake tags name message) NoneOf old) old result old
+    untaken_handles message sealed up is = handles_still sense good (FrontOf (RunsTake tags name message) NoneOf old) faults sealed NoJournal old result up (inl refl) (showing_stop (λ text. text ≡ no_message_text (codes "take") (name ∷ [])) result is)
+
+  -- ---- joins
+
+  module _ (id name : Bytes) (reply : Result (Unit {0}) Refusal) (old : List (Named D)) (result : Result Bytes RunStop) (new : List (Named D)) where
+    join_gives : Kept D → Unit {0} → Held → Type 0
+    join_gives kept r held = (kept.held.graph_id ≡ None) × (held ≡ record kept.held { graph_id = Some id })
+
+    join_refuses : Kept D → Refusal → Type 0
+    join_refuses kept why = IsSome kept.held.graph_id × (why ≡ refusal.HasGraph)
+
+    pub join_changes : Changes old name (λ before after. Joins before {T = Unit {0}} id reply after × Treats sense good faults before after reply) new → Words reply (joined_line name reply) result
+        → Changing (JoinsGraph name (Ok id)) NoneOf old result new
+    unfolding join_gives join_refuses
+    join_changes changes words =
+        changing_step join_gives join_refuses (joined_line name) (JoinsGraph name (Ok id)) old name reply result new changes (λ r. (_, refl)) words
+        (λ text is. (reply, call_of (λ before after. Joins before {T = Unit {0}} id reply after) reply old name new changes, is))
+
+    pub join_handles : (sealed : Type 0) → AreUp old → Changes old name (λ before after. Joins before {T = Unit {0}} id reply after × Treats sense good faults before after reply) new → Words reply (joined_line name reply) result
+        → Handles sense good faults sealed NoJournal (FrontOf (JoinsGraph name (Ok id)) NoneOf old) old result new
+    unfolding join_gives join_refuses
+    join_handles sealed up changes words =
+        let reached : List (Named D) → Type 0 = FrontOf (JoinsGraph name (Ok id)) NoneOf old in
+        handles sense good reached faults sealed old name reply new up (inl refl)
+        (weathers_step sense good faults reached sealed join_gives join_refuses old name reply new up (inl refl) (λ before failed why is because. subst (IsCausedBy sealed failed) (sym because.1) tt)
+        (λ before r held is own given. inr (inl (_, (Ok r, (before, record before { held = held; down = None }, is, (own, (held, given, record { same = refl })), refl), refl)))) changes)
+        NoJournal (joined_line name reply) result (λ fell. ap (joined_line name) fell.1) words
+
+-- ---- lines that make a message
+
+module _ {D : Type 0} (replicas : List (Named D)) (a : Bytes) (number : ℕ) (up : AreUp replicas) where
+  pub ask_says : (reply : Result Bytes Refusal) (result : Result Said RunStop)
       → Of replicas a (λ kept. Asks kept reply) → WordsAndMessage reply (asked_line a number reply) (message_of reply) result → Making (SaysAsk replicas a number) result
-  ask_says replicas a number reply (Ok said) asks words = (reply, asks, words.0, words.1)
-  ask_says replicas a number reply (Err why) (kept, is, asks) words = mild_memory reply why (asks_mild kept reply asks) words
+  ask_says reply (Ok said) asks words = (reply, asks, words.0, words.1)
+  ask_says reply (Err why) (kept, is, asks) words = mild_memory reply why (asks_mild kept (up_of replicas a kept up is) reply asks) words
 
-  pub next_says : (replicas : List (Named D)) (a message : Bytes) (number : ℕ) (reply : Result (Option Bytes) Refusal) (result : Result Said RunStop)
+  pub next_says : (message : Bytes) (reply : Result (Option Bytes) Refusal) (result : Result Said RunStop)
       → Of replicas a (λ kept. AsksNext kept message reply) → WordsAndMessage reply (next_line a number reply) (next_message_of reply) result → Making (SaysNext replicas a (Some message) number) result
-  next_says replicas a message number reply (Ok said) asks words = (reply, asks, words.0, words.1)
-  next_says replicas a message number reply (Err why) (kept, is, asks) words = mild_memory reply why (next_mild kept message reply asks) words
+  next_says message reply (Ok said) asks words = (reply, asks, words.0, words.1)
+  next_says message reply (Err why) (kept, is, asks) words = mild_memory reply why (next_mild kept (up_of replicas a kept up is) message reply asks) words
 
-  pub answer_says : (replicas : List (Named D)) (a message : Bytes) (number : ℕ) (reply : Result Bytes Refusal) (result : Result Said RunStop)
+  pub answer_says : (message : Bytes) (reply : Result Bytes Refusal) (result : Result Said RunStop)
       → Of replicas a (λ kept. Answers kept message reply) → AnswerWords a number reply (message_of reply) result → Making (SaysAnswer replicas a (Some message) number) result
-  answer_says replicas a message number reply (Ok said) answers words = (reply, answers, words.0, words.1)
-  answer_says replicas a message number reply (Err why) (kept, is, answers) words = mild_memory reply why (answers_mild kept message reply answers) words
+  answer_says message reply (Ok said) answers words = (reply, answers, words.0, words.1)
+  answer_says message reply (Err why) (kept, is, answers) words = mild_memory reply why (answers_mild kept (up_of replicas a kept up is) message reply answers) words
 
-  -- an answer is a response
-  pub answer_spelled : (replicas : List (Named D)) (a message : Bytes) (reply : Result Bytes Refusal) → Of replicas a (λ kept. Answers kept message reply) → IfOk reply (λ bytes. (response : Response) × IsResponse response bytes)
-  answer_spelled replicas a message (Ok bytes) (kept, is, (request, read, (response, answer, spelled))) = (response, spelled)
-  answer_spelled replicas a message (Err why) answers = tt
+-- an answer is a response
+pub answer_spelled : {D : Type 0} (replicas : List (Named D)) (a message : Bytes) (reply : Result Bytes Refusal) → Of replicas a (λ kept. Answers kept message reply)
+    → IfOk reply (λ bytes. (response : Response) × IsResponse response bytes)
+answer_spelled replicas a message (Ok bytes) (kept, is, (up, (request, read, (response, answer, spelled)))) = (response, spelled)
+answer_spelled replicas a message (Err why) answers = tt
 
-  -- ---- joins and restarts
+-- ---- a join, by the two graphs
 
-  pub restart_changes : (name : Bytes) (reply : Result ℕ Refusal) (old : List (Named D)) (result : Result Bytes RunStop) (new : List (Named D))
-      → Of old name (λ kept. reply ≡ Ok (length kept.held.commands)) → new ≡ old → Words reply (restarted_line name reply) result → Changing (RunsRestart name) NoneOf old result new
-  restart_changes name reply old (Ok text) new (kept, is, same) unmoved words = ((kept, is, ap (restarted_line name) (sym same) ∙ words), unmoved)
-  restart_changes name reply old (Err why) new held unmoved words = inl unmoved
+module _ {D : Type 0} (a b : Bytes) (own known : Option (List ℕ)) (old : List (Named D)) (of_own : Of old a (λ kept. own ≡ kept.held.graph_id)) (of_known : Of old b (λ kept. known ≡ kept.held.graph_id)) where
+  join_runs : (ready : Result (List ℕ) Refusal) (text : Bytes) (new : List (Named D)) → graph_to_join own known ≡ ready → JoinsGraph a ready old text new → RunsJoin a b old text new
+  join_runs ready text new is joins = (
+    of_own.0,
+    of_own.1,
+    (
+      of_known.0,
+      of_known.1,
+      subst (λ (r : Result (List ℕ) Refusal). JoinsGraph a r old text new) (sym is ∙ ap (λ o. graph_to_join o known) of_own.2 ∙ ap (graph_to_join of_own.0.held.graph_id) of_known.2) joins,
+    ),
+  )
 
-  module _ (a b : Bytes) (own known : Option (List ℕ)) (old : List (Named D)) (of_own : Of old a (λ kept. own ≡ kept.held.graph_id)) (of_known : Of old b (λ kept. known ≡ kept.held.graph_id)) where
-    join_runs : (ready : Result (List ℕ) Refusal) (text : Bytes) (new : List (Named D)) → graph_to_join own known ≡ ready → JoinsGraph a ready old text new → RunsJoin a b old text new
-    join_runs ready text new is joins = (
-      of_own.0,
-      of_own.1,
-      (
-        of_known.0,
-        of_known.1,
-        subst (λ (r : Result (List ℕ) Refusal). JoinsGraph a r old text new) (sym is ∙ ap (λ o. graph_to_join o known) of_own.2 ∙ ap (graph_to_join of_own.0.held.graph_id) of_known.2) joins,
-      ),
-    )
+  join_fronts : (id : List ℕ) (l : List (Named D)) → graph_to_join own known ≡ Ok id → FrontOf (JoinsGraph a (Ok id)) NoneOf old l → FrontOf (RunsJoin a b) NoneOf old l
+  join_fronts id l is (inl same) = inl same
+  join_fronts id l is (inr (inl (text, runs))) = inr (inl (text, join_runs (Ok id) text l is runs))
+  join_fronts id l is (inr (inr none)) = inr (inr none)
 
-    pub join_refused : (why : Refusal) (result : Result Bytes RunStop) → graph_to_join own known ≡ Err why → WordsBy (Some why) (refused_line (codes "join") (a ∷ []) why) result
-        → Changing (RunsJoin a b) NoneOf old result old
-    join_refused why (Ok text) is words = join_runs (Err why) text old is (words, refl)
-    join_refused why (Err s) is words = inl refl
+  pub join_refused : (why : Refusal) (result : Result Bytes RunStop) → graph_to_join own known ≡ Err why → WordsBy (Some why) (refused_line (codes "join") (a ∷ []) why) result
+      → Changing (RunsJoin a b) NoneOf old result old
+  join_refused why (Ok text) is words = join_runs (Err why) text old is (words, refl)
+  join_refused why (Err s) is words = record { replicas = old; is_front = inl refl; alike = alike_same old }
 
-    pub join_done : (id : List ℕ) (result : Result Bytes RunStop) (new : List (Named D)) → graph_to_join own known ≡ Ok id → Changing (JoinsGraph a (Ok id)) NoneOf old result new
-        → Changing (RunsJoin a b) NoneOf old result new
-    join_done id (Ok text) new is runs = join_runs (Ok id) text new is runs
-    join_done id (Err s) new is (inl same) = inl same
-    join_done id (Err s) new is (inr (inl (text, runs))) = inr (inl (text, join_runs (Ok id) text new is runs))
-    join_done id (Err s) new is (inr (inr none)) = inr (inr none)
+  pub join_done : (id : List ℕ) (result : Result Bytes RunStop) (new : List (Named D)) → graph_to_join own known ≡ Ok id → Changing (JoinsGraph a (Ok id)) NoneOf old result new
+      → Changing (RunsJoin a b) NoneOf old result new
+  join_done id (Ok text) new is runs = join_runs (Ok id) text new is runs
+  join_done id (Err s) new is leaves = record { replicas = leaves.replicas; is_front = join_fronts id leaves.replicas is leaves.is_front; alike = leaves.alike }
+
+  module _ (sense : Sense D) (good : List ℕ → List ℕ → List ℕ → Bool) (faults : D → ℕ) (sealed : Type 0) where
+    pub join_done_handles : (id : List ℕ) (result : Result Bytes RunStop) (new : List (Named D)) → graph_to_join own known ≡ Ok id
+        → Handles sense good faults sealed NoJournal (FrontOf (JoinsGraph a (Ok id)) NoneOf old) old result new → Handles sense good faults sealed NoJournal (FrontOf (RunsJoin a b) NoneOf old) old result new
+    join_done_handles id result new is h =
+        handles_more sense good faults sealed sealed NoJournal NoJournal (FrontOf (JoinsGraph a (Ok id)) NoneOf old) (FrontOf (RunsJoin a b) NoneOf old) old result new (λ x. x) (λ n c x. x) (λ l there. join_fronts id l is there) h
+
+    pub join_refused_handles : (why : Refusal) (line : Option Bytes) (result : Result Bytes RunStop) → AreUp old → graph_to_join own known ≡ Err why → WordsBy (Some why) line result
+        → Handles sense good faults sealed NoJournal (FrontOf (RunsJoin a b) NoneOf old) old result old
+    join_refused_handles why line result up is words =
+        handles_still sense good (FrontOf (RunsJoin a b) NoneOf old) faults sealed NoJournal old result up (inl refl) (refused_join_alone own known why line result is words)

@@ -1,10 +1,11 @@
 -- Lemmas that the proofs of this crate share.
 mod PlaceFacts
+mod HandleFacts
 mod CauseFacts
-mod KeepFacts
-mod LineFacts
 mod ChangeFacts
-mod OpenFacts
-mod ArmFacts
+mod RestartFacts
 mod RoundFacts
-mod SessionStops
+mod SessionFacts
+mod LineFacts
+mod ArmFacts
+mod OpenFacts

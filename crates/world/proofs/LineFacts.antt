@@ -1,19 +1,64 @@
 -- A line runs in a world where it runs on its replicas and messages; and what it keeps.
-use Rattle.std.proofs.Common.{rules, arith, codes, nat_lt, ◌<◌, ◌≡◌, ◌⊎◌, inl, inr, ◌+◌, true, false, List, [], ◌∷◌, ◌++◌, length, map, Option, Result, Ok, Err, OnOk, refl, ap, ◌∙◌, length-append}
+use Rattle.std.proofs.Common.{rules, arith, codes, nat_lt, ◌<◌, ◌≡◌, inl, inr, ℕ, ◌+◌, Bool, true, List, [], ◌∷◌, ◌++◌, length, map, Option, Result, Ok, Err, IfErr, OnOk, refl, sym, ap, subst, ◌∙◌, length-append}
 use Rattle.std.proofs.lemmas.Bool.{and_parts}
 use Rattle.std.proofs.lemmas.Bool.Decides.{nat_tests}
-use Rattle.script.specs.Scripts.{with_line}
+use Rattle.journal.specs.declared.fault.OpenFault.{OpenFault}
+use Rattle.outside.specs.Causes.{Rose}
+use Rattle.replica.specs.Disks.{Sense}
+use Rattle.script.specs.Scripts.{Declared, with_line}
 use Rattle.script.specs.declared.line.Line.{Line}
 use Rattle.script.specs.declared.line.Line.TheVariants as line
 use Rattle.script_texts.specs.Bytes.{Bytes}
-use Rattle.world.specs.Lines.{KeepsRest, Runs, Tags, action_of, may_run}
-use Rattle.world.specs.Stops.{LeavesFront, RunsOrStops, SomeOf, Steps, Stops}
-use Rattle.world.specs.Worlds.{Named, Site, declared, disks_of, site_of, with_message}
+use Rattle.world.specs.Lines.{KeepsRest, Runs, Tags, may_run}
+use Rattle.world.specs.Stops.{Acts, HasCause, IsFront, IsSteady, LeavesFront, NoneFell, RefusesJournal, RunsOrStops, SomeOf, SomeRose}
+use Rattle.world.specs.Worlds.{AreUp, Named, Site, declared, disks_of, site_of, with_message}
 use Rattle.world.specs.declared.said.Said.{Said}
 use Rattle.world.specs.declared.stop.RunStop.{RunStop}
-use Rattle.world.specs.working.Kinds.{is_making}
-use Rattle.world.specs.working.Running.{Changing, RunsIn, SaysIn, ShowsIn}
-use Rattle.world.proofs.KeepFacts.{Keeps, act_keeps, came_keeps, init_keeps, join_keeps, keeps_on, keeps_same, session_keeps, takes_keep}
+use Rattle.world.specs.declared.stop.RunStop.TheVariants as stop
+use Rattle.world.specs.working.Fitting.{Fits}
+use Rattle.world.specs.working.Handling.{Handles}
+use Rattle.world.specs.working.Kinds.{Keeping, is_changing, is_making, is_showing}
+use Rattle.world.specs.working.Passing.{Passes, RunsOn, StepsOn}
+use Rattle.world.specs.working.Running.{Changing, FrontOf, Making, RunsIn, SaysIn, Showing, ShowsIn}
+use Rattle.world.specs.working.Stopping.{IsStopFor}
+use Rattle.world.proofs.HandleFacts.{handles_more, handles_still}
+use Rattle.world.proofs.PlaceFacts.{alike_same, none_fell, rose_more}
+
+-- ---- how many messages there are
+
+changing_count : (d : Declared) (one : Line) → is_changing one ≡ true → d.messages ≡ (with_line d one).messages
+changing_count d (line.Ask a) is = absurd cc
+changing_count d (line.Next a n) is = absurd cc
+changing_count d (line.Answer a n) is = absurd cc
+changing_count d (line.Inject bytes) is = absurd cc
+changing_count d (line.Replica a) is = absurd cc
+changing_count d (line.Facts a) is = absurd cc
+changing_count d (line.Effects a) is = absurd cc
+changing_count d (line.Graph a) is = absurd cc
+changing_count d line.Blank is = absurd cc
+changing_count d (line.Init a f args) is = refl
+changing_count d (line.Join a b) is = refl
+changing_count d (line.Act a f args) is = refl
+changing_count d (line.Sync a b) is = refl
+changing_count d (line.Take a n) is = refl
+changing_count d (line.Restart a) is = refl
+
+showing_count : (d : Declared) (one : Line) → is_showing one ≡ true → d.messages ≡ (with_line d one).messages
+showing_count d (line.Ask a) is = absurd cc
+showing_count d (line.Next a n) is = absurd cc
+showing_count d (line.Answer a n) is = absurd cc
+showing_count d (line.Inject bytes) is = absurd cc
+showing_count d (line.Replica a) is = refl
+showing_count d (line.Facts a) is = refl
+showing_count d (line.Effects a) is = refl
+showing_count d (line.Graph a) is = refl
+showing_count d line.Blank is = refl
+showing_count d (line.Init a f args) is = absurd cc
+showing_count d (line.Join a b) is = absurd cc
+showing_count d (line.Act a f args) is = absurd cc
+showing_count d (line.Sync a b) is = absurd cc
+showing_count d (line.Take a n) is = absurd cc
+showing_count d (line.Restart a) is = absurd cc
 
 module _ {D : Type 0} (tags : Tags) where
   -- ---- from the replicas to the world
@@ -70,111 +115,15 @@ module _ {D : Type 0} (tags : Tags) where
   changed_runs old new (line.Graph a) text rest runs = absurd runs
   changed_runs old new line.Blank text rest runs = absurd runs
 
-  fronts : (old new : Site D) (one : Line) → KeepsRest old new
-      → (new.replicas ≡ old.replicas) ⊎ ((text : Bytes) × RunsIn tags old.messages one old.replicas text new.replicas) ⊎ SomeOf tags one old.replicas new.replicas → Stops tags old one new
-  fronts old new one rest (inl same) = inl same
-  fronts old new one rest (inr (inl (text, runs))) = inr (inl (text, record old { replicas = new.replicas }, changed_runs old (record old { replicas = new.replicas }) one text (refl, refl) runs, refl))
-  fronts old new one rest (inr (inr some)) = inr (inr some)
+  front_site : (old : Site D) (one : Line) (l : List (Named D)) → FrontOf (RunsIn tags old.messages one) (SomeOf tags one) old.replicas l → IsFront tags old one l
+  front_site old one l (inl same) = inl same
+  front_site old one l (inr (inl (text, runs))) = inr (inl (text, record old { replicas = l }, changed_runs old (record old { replicas = l }) one text (refl, refl) runs, refl))
+  front_site old one l (inr (inr some)) = inr (inr some)
 
-  pub changing_runs : (old new : Site D) (one : Line) (result : Result Bytes RunStop) → KeepsRest old new
+  changing_runs : (old new : Site D) (one : Line) (result : Result Bytes RunStop) → KeepsRest old new
       → Changing (RunsIn tags old.messages one) (SomeOf tags one) old.replicas result new.replicas → RunsOrStops tags old one result new
   changing_runs old new one (Ok text) rest runs = changed_runs old new one text rest runs
-  changing_runs old new one (Err why) rest runs = record { front = fronts old new one rest runs; spare = rest.1 }
-
-  -- ---- what is kept
-
-  changed_keeps : (messages : List (Option Bytes)) (one : Line) (old : List (Named D)) (text : Bytes) (new : List (Named D)) → RunsIn tags messages one old text new → Keeps old new
-  changed_keeps messages (line.Init a f args) old text new runs = init_keeps tags.good tags.told (action_of f args true) (codes "init") a old text new runs
-  changed_keeps messages (line.Join a b) old text new runs = join_keeps a b old text new runs
-  changed_keeps messages (line.Act a f args) old text new runs = act_keeps tags.good tags.told (action_of f args false) (codes "act") a old text new runs
-  changed_keeps messages (line.Sync a b) old text new (result, session, said) = session_keeps tags.good a b old result new session
-  changed_keeps messages (line.Take a n) old text new runs = takes_keep tags a _ old text new runs
-  changed_keeps messages (line.Restart a) old text new runs = keeps_same old new runs.1
-  changed_keeps messages (line.Ask a) old text new runs = absurd runs
-  changed_keeps messages (line.Next a n) old text new runs = absurd runs
-  changed_keeps messages (line.Answer a n) old text new runs = absurd runs
-  changed_keeps messages (line.Inject bytes) old text new runs = absurd runs
-  changed_keeps messages (line.Replica a) old text new runs = absurd runs
-  changed_keeps messages (line.Facts a) old text new runs = absurd runs
-  changed_keeps messages (line.Effects a) old text new runs = absurd runs
-  changed_keeps messages (line.Graph a) old text new runs = absurd runs
-  changed_keeps messages line.Blank old text new runs = absurd runs
-
-  some_keep : (one : Line) (old new : List (Named D)) → SomeOf tags one old new → Keeps old new
-  some_keep (line.Sync a b) old new came = came_keeps tags a b old new came
-  some_keep (line.Init a f args) old new came = absurd came
-  some_keep (line.Join a b) old new came = absurd came
-  some_keep (line.Act a f args) old new came = absurd came
-  some_keep (line.Take a n) old new came = absurd came
-  some_keep (line.Restart a) old new came = absurd came
-  some_keep (line.Ask a) old new came = absurd came
-  some_keep (line.Next a n) old new came = absurd came
-  some_keep (line.Answer a n) old new came = absurd came
-  some_keep (line.Inject bytes) old new came = absurd came
-  some_keep (line.Replica a) old new came = absurd came
-  some_keep (line.Facts a) old new came = absurd came
-  some_keep (line.Effects a) old new came = absurd came
-  some_keep (line.Graph a) old new came = absurd came
-  some_keep line.Blank old new came = absurd came
-
-  -- a change whose replicas are these keeps names and disks
-  pub changing_keeps : (messages : List (Option Bytes)) (one : Line) (old : List (Named D)) (result : Result Bytes RunStop) (new : List (Named D))
-      → Changing (RunsIn tags messages one) (SomeOf tags one) old result new → Keeps old new
-  changing_keeps messages one old (Ok text) new runs = changed_keeps messages one old text new runs
-  changing_keeps messages one old (Err why) new (inl same) = keeps_same old new same
-  changing_keeps messages one old (Err why) new (inr (inl (text, runs))) = changed_keeps messages one old text new runs
-  changing_keeps messages one old (Err why) new (inr (inr some)) = some_keep one old new some
-
-  -- what a line keeps of a world, and how many messages it makes
-  pub record Leaves (old : Site D) (new : Site D) : Type 0 where
-    pub keeps : Keeps old.replicas new.replicas
-    pub spare : new.spare ≡ old.spare
-
-  same_site : (old new : Site D) → new ≡ old → Leaves old new
-  same_site old new same = record { keeps = keeps_same old.replicas new.replicas (ap (λ s. s.replicas) same); spare = ap (λ s. s.spare) same }
-
-  made_site : (old new : Site D) (messages : List (Option Bytes)) → new ≡ record old { messages = messages } → Leaves old new
-  made_site old new messages same = record { keeps = keeps_same old.replicas new.replicas (ap (λ s. s.replicas) same); spare = ap (λ s. s.spare) same }
-
-  changed_site : (old new : Site D) → KeepsRest old new → Keeps old.replicas new.replicas → Leaves old new
-  changed_site old new rest keeps = record { keeps = keeps; spare = rest.1 }
-
-  pub runs_keep : (old : Site D) (one : Line) (text : Bytes) (new : Site D) → Runs tags old one text new → Leaves old new
-  runs_keep old (line.Replica a) text new runs = same_site old new runs.1
-  runs_keep old (line.Facts a) text new runs = same_site old new runs.1
-  runs_keep old (line.Effects a) text new runs = same_site old new runs.1
-  runs_keep old (line.Graph a) text new runs = same_site old new runs.1
-  runs_keep old line.Blank text new runs = same_site old new runs.1
-  runs_keep old (line.Ask a) text new (made, says, set) = made_site old new _ set
-  runs_keep old (line.Next a n) text new (made, says, set) = made_site old new _ set
-  runs_keep old (line.Answer a n) text new (made, says, set) = made_site old new _ set
-  runs_keep old (line.Inject bytes) text new (made, says, set) = made_site old new _ set
-  runs_keep old (line.Init a f args) text new (runs, rest) = changed_site old new rest (changed_keeps old.messages (line.Init a f args) old.replicas text new.replicas runs)
-  runs_keep old (line.Join a b) text new (runs, rest) = changed_site old new rest (changed_keeps old.messages (line.Join a b) old.replicas text new.replicas runs)
-  runs_keep old (line.Act a f args) text new (runs, rest) = changed_site old new rest (changed_keeps old.messages (line.Act a f args) old.replicas text new.replicas runs)
-  runs_keep old (line.Sync a b) text new (runs, rest) = changed_site old new rest (changed_keeps old.messages (line.Sync a b) old.replicas text new.replicas runs)
-  runs_keep old (line.Take a n) text new (runs, rest) = changed_site old new rest (changed_keeps old.messages (line.Take a n) old.replicas text new.replicas runs)
-  runs_keep old (line.Restart a) text new (runs, rest) = changed_site old new rest (changed_keeps old.messages (line.Restart a) old.replicas text new.replicas runs)
-
-  front_keeps : (old : Site D) (one : Line) (new : Site D) → Stops tags old one new → Keeps old.replicas new.replicas
-  front_keeps old one new (inl same) = keeps_same old.replicas new.replicas same
-  front_keeps old one new (inr (inl (text, after, runs, same))) = keeps_on old.replicas after.replicas new.replicas (runs_keep old one text after runs).keeps (keeps_same after.replicas new.replicas same)
-  front_keeps old one new (inr (inr some)) = some_keep one old.replicas new.replicas some
-
-  step_leaves : {T : Type 0} (old : Site D) (one : Line) (before : Bytes) (result : Result T RunStop) (after : Bytes) (new : Site D) → Steps tags old one before result after new → Leaves old new
-  step_leaves old one before (Ok reply) after new (text, runs, said) = runs_keep old one text new runs
-  step_leaves old one before (Err why) after new (front, said) = record { keeps = front_keeps old one new front.front; spare = front.spare }
-
-  pub step_keeps_names : {T : Type 0} (old : Site D) (one : Line) (before : Bytes) (result : Result T RunStop) (after : Bytes) (new : Site D) → Steps tags old one before result after new
-      → map (λ r. r.name) new.replicas ≡ map (λ r. r.name) old.replicas
-  step_keeps_names old one before result after new steps = (step_leaves old one before result after new steps).keeps.names
-
-  pub step_keeps_disks : {T : Type 0} (old : Site D) (one : Line) (before : Bytes) (result : Result T RunStop) (after : Bytes) (new : Site D) → Steps tags old one before result after new
-      → disks_of new ≡ disks_of old
-  step_keeps_disks old one before result after new steps =
-      let leaves = step_leaves old one before result after new steps in ap (λ ds. ds ++ new.spare) leaves.keeps.disks ∙ ap (λ ds. map (λ r. r.kept.disk) old.replicas ++ ds) leaves.spare
-
-  -- ---- messages
+  changing_runs old new one (Err why) rest leaves = record { replicas = leaves.replicas; front = front_site old one leaves.replicas leaves.is_front; alike = leaves.alike; spare = rest.1 }
 
   one_more : (old new : Site D) (made : Option Bytes) → new ≡ record old { messages = with_message old.messages made } → length new.messages ≡ length old.messages + 1
   one_more old new made set = ap (λ s. length s.messages) set ∙ length-append old.messages (made ∷ [])
@@ -196,15 +145,154 @@ module _ {D : Type 0} (tags : Tags) where
   runs_count old (line.Take a n) text new (runs, rest) = ap length rest.0
   runs_count old (line.Restart a) text new (runs, rest) = ap length rest.0
 
-  pub step_counts : {T : Type 0} (old : Site D) (one : Line) (before : Bytes) (result : Result T RunStop) (after : Bytes) (new : Site D) → Steps tags old one before result after new
-      → OnOk result (length new.messages ≡ (with_line (declared old) one).messages)
-  step_counts old one before (Ok reply) after new (text, runs, said) = runs_count old one text new runs
-  step_counts old one before (Err why) after new steps = tt
 
-  -- ---- a text that can't be kept
+  -- ---- a line, whatever it answers
 
-  pub text_dropped : (old : Site D) (one : Line) (text : Bytes) (new : Site D) → Runs tags old one text new → LeavesFront tags old one new
-  text_dropped old one text new runs = record { front = inr (inl (text, new, runs, refl)); spare = (runs_keep old one text new runs).spare }
+  module _ (sense : Sense D) (faults : D → ℕ) (before now : ℕ) where
+    -- one that may change replicas
+    pub changed_on : (one : Line) (replicas after : List (Named D)) (messages : List (Option Bytes)) (spare : List D) (result : Result Bytes RunStop) → is_changing one ≡ true
+        → (IsSteady sense tags.good replicas one → Changing (RunsIn tags messages one) (SomeOf tags one) replicas result after)
+        → Handles sense tags.good faults (Acts one × Rose before now) (RefusesJournal sense tags.good replicas one) (FrontOf (RunsIn tags messages one) (SomeOf tags one) replicas) replicas result after
+        → RunsOn tags sense faults before now (record { replicas = replicas; messages = messages; spare = spare }) one result (record { replicas = after; messages = messages; spare = spare })
+    changed_on one replicas after messages spare result changing goes disks =
+        let old : Site D = record { replicas = replicas; messages = messages; spare = spare } in
+        record {
+          goes = λ steady. changing_runs old (record { replicas = after; messages = messages; spare = spare }) one result (refl, refl) (goes steady);
+          passes = record {
+            disks = handles_more sense tags.good faults (Acts one × Rose before now) (Acts one × Rose before now) (RefusesJournal sense tags.good replicas one) (RefusesJournal sense tags.good replicas one)
+                (FrontOf (RunsIn tags messages one) (SomeOf tags one) replicas) (IsFront tags old one) replicas result after (λ x. x) (λ n c x. x) (λ l there. front_site old one l there) disks;
+            counted = counted_by result;
+            spare = refl;
+          };
+        }
+      where
+        counted_by : (r : Result Bytes RunStop) → OnOk r (length messages ≡ (with_line (declared (record { replicas = replicas; messages = messages; spare = spare })) one).messages)
+        counted_by (Ok text) = changing_count (declared (record { replicas = replicas; messages = messages; spare = spare })) one changing
+        counted_by (Err s) = tt
+
+    -- the same of a world that is seen as its parts
+    pub changed_by : (one : Line) (replicas after : List (Named D)) (messages seen : List (Option Bytes)) (spare : List D) (result : Result Bytes RunStop) (old : Site D)
+        → old ≡ record { replicas = replicas; messages = messages; spare = spare } → seen ≡ messages → is_changing one ≡ true → Fits tags seen sense faults before now replicas result after one
+        → RunsOn tags sense faults before now old one result (record { replicas = after; messages = messages; spare = spare })
+    changed_by one replicas after messages seen spare result old is same changing fits =
+        let own = subst (λ ms. Fits tags ms sense faults before now replicas result after one) same fits in
+        subst (λ (site : Site D). RunsOn tags sense faults before now site one result (record { replicas = after; messages = messages; spare = spare })) (sym is)
+        (changed_on one replicas after messages spare result changing own.goes own.disks)
+
+    -- where the replicas stay
+    still_passes : {T : Type 0} (old : Site D) (one : Line) (result : Result T RunStop) (new : Site D) → AreUp old.replicas → new.replicas ≡ old.replicas → new.spare ≡ old.spare → IfErr result (λ s. s ≡ stop.NoMemory)
+        → OnOk result (length new.messages ≡ (with_line (declared old) one).messages) → Passes tags sense faults before now old one result new
+    still_passes {T = T} old one result new up same spare none counted = record {
+      disks = subst (λ (l : List (Named D)). Handles sense tags.good faults (Acts one × Rose before now) (RefusesJournal sense tags.good old.replicas one) (IsFront tags old one) old.replicas result l) (sym same)
+          (handles_still sense tags.good (IsFront tags old one) faults (Acts one × Rose before now) (RefusesJournal sense tags.good old.replicas one) old.replicas result up (inl refl) none);
+      counted = counted;
+      spare = spare;
+    }
+
+    still_front : (old : Site D) (one : Line) → LeavesFront tags old one old
+    still_front old one = record { replicas = old.replicas; front = inl refl; alike = alike_same old.replicas; spare = refl }
+
+    -- one that lacks memory, and leaves all
+    pub lacks_on : (old : Site D) (one : Line) (s : RunStop) → AreUp old.replicas → s ≡ stop.NoMemory → RunsOn tags sense faults before now old one (Err s) old
+    lacks_on old one s up none = record { goes = λ steady. still_front old one; passes = still_passes old one (Err s) old up refl refl none tt }
+
+    -- one that makes a message
+    pub made_on : (old : Site D) (one : Line) (said : Said) (result : Result Bytes RunStop) (new : Site D) → AreUp old.replicas → SaysIn (site_of old.replicas old.messages) one said.text said.message
+        → Keeping old said result new → RunsOn tags sense faults before now old one result new
+    made_on old one said (Ok text) new up says (same, set) =
+        let runs : Runs tags old one text new = subst (λ t. Runs tags old one t new) (sym same) (subst (Runs tags old one said.text) (sym set) (made_runs old one said says)) in
+        record {
+          goes = λ steady. runs;
+          passes = still_passes old one (Ok text) new up (ap (λ (x : Site D). x.replicas) set) (ap (λ (x : Site D). x.spare) set) tt (runs_count old one text new runs);
+        }
+    made_on old one said (Err s) new up says (none, set) = subst (RunsOn tags sense faults before now old one (Err s)) (sym set) (lacks_on old one s up none)
+
+    -- the same of what its function says
+    pub making_on : (old : Site D) (one : Line) (said : Said) (result : Result Bytes RunStop) (new : Site D) → AreUp old.replicas → Making (SaysIn (site_of old.replicas old.messages) one) (Ok said)
+        → Keeping old said result new → RunsOn tags sense faults before now old one result new
+    making_on old one said result new up says keeps = made_on old one said result new up says keeps
+
+    -- one that tells what is held
+    pub shown_on : (old : Site D) (one : Line) (result : Result Bytes RunStop) → AreUp old.replicas → is_showing one ≡ true → Showing (ShowsIn old.replicas one) result → RunsOn tags sense faults before now old one result old
+    shown_on old one (Ok text) up showing says =
+        record { goes = λ steady. shown_runs old one text says; passes = still_passes old one (Ok text) old up refl refl tt (showing_count (declared old) one showing) }
+    shown_on old one (Err s) up showing none = lacks_on old one s up none
+
+    -- ---- its text
+
+    pub steps_stopped : {T : Type 0} (old : Site D) (one : Line) (into : Bytes) (s : RunStop) (new : Site D) → RunsOn tags sense faults before now old one (Err s) new → StepsOn tags sense faults before now {T = T} old one into (Err s) into new
+    steps_stopped old one into s new on = record {
+      goes = λ steady. (on.goes steady, refl);
+      passes = record {
+        disks = record { later = on.passes.disks.later; up = tt; cause = on.passes.disks.cause; crash = on.passes.disks.crash };
+        counted = tt;
+        spare = on.passes.spare;
+      };
+    }
+
+    pub steps_unsaid : {T : Type 0} (old : Site D) (one : Line) (into text : Bytes) (s : RunStop) (new : Site D) → s ≡ stop.NoMemory → RunsOn tags sense faults before now old one (Ok text) new
+        → StepsOn tags sense faults before now {T = T} old one into (Err s) into new
+    steps_unsaid old one into text s new none on = record {
+      goes = λ steady. (record { replicas = new.replicas; front = inr (inl (text, new, on.goes steady, refl)); alike = alike_same new.replicas; spare = on.passes.spare }, refl);
+      passes = record {
+        disks = record {
+          later = on.passes.disks.later;
+          up = tt;
+          cause = subst (IsStopFor (Acts one × Rose before now) (SomeRose faults (map (λ r. r.kept.disk) old.replicas) (map (λ r. r.kept.disk) new.replicas)) (RefusesJournal sense tags.good old.replicas one)) (sym none) tt;
+          crash = on.passes.disks.crash;
+        };
+        counted = tt;
+        spare = on.passes.spare;
+      };
+    }
+
+    pub steps_said : {T : Type 0} (old : Site D) (one : Line) (into text after : Bytes) (reply : T) (new : Site D) → after ≡ into ++ text → RunsOn tags sense faults before now old one (Ok text) new
+        → StepsOn tags sense faults before now old one into (Ok reply) after new
+    steps_said old one into text after reply new said on = record {
+      goes = λ steady. (text, on.goes steady, said);
+      passes = record {
+        disks = record { later = on.passes.disks.later; up = on.passes.disks.up; cause = tt; crash = on.passes.disks.crash };
+        counted = on.passes.counted;
+        spare = on.passes.spare;
+      };
+    }
+
+-- ---- what a step says, one by one
+
+module _ {D : Type 0} (sense : Sense D) (good : List ℕ → List ℕ → List ℕ → Bool) (faults : D → ℕ) (before now : ℕ) (old new : Site D) (one : Line) (spare : new.spare ≡ old.spare) where
+  abbrev Disks : Type 0
+  Disks = SomeRose faults (map (λ r. r.kept.disk) old.replicas) (map (λ r. r.kept.disk) new.replicas)
+
+  rose_disks : Disks → SomeRose faults (disks_of old) (disks_of new)
+  rose_disks rose =
+      subst (λ more. SomeRose faults (disks_of old) (map (λ r. r.kept.disk) new.replicas ++ more)) (sym spare)
+      (rose_more faults (map (λ r. r.kept.disk) old.replicas) (map (λ r. r.kept.disk) new.replicas) old.spare rose)
+
+  cause_of : (s : RunStop) → IsStopFor (Acts one × Rose before now) Disks (RefusesJournal sense good old.replicas one) s → HasCause before now faults (disks_of old) (disks_of new) s
+  cause_of stop.DiskFault is = rose_disks is
+  cause_of stop.SealFault is = is.1
+  cause_of (stop.Journal name cause) is = tt
+  cause_of stop.NoMemory is = tt
+
+  module _ {T : Type 0} (reached : List (Named D) → Type 0) where
+    abbrev Handled : Result T RunStop → Type 0
+    Handled result = Handles sense good faults (Acts one × Rose before now) (RefusesJournal sense good old.replicas one) reached old.replicas result new.replicas
+
+    pub step_cause : (result : Result T RunStop) → Handled result → IfErr result (HasCause before now faults (disks_of old) (disks_of new))
+    step_cause (Ok r) h = tt
+    step_cause (Err s) h = cause_of s h.cause
+
+    pub step_seals : (result : Result T RunStop) → Handled result → IfErr result (λ s. s ≡ stop.SealFault → Acts one)
+    step_seals (Ok r) h = tt
+    step_seals (Err s) h = λ is. (subst (IsStopFor (Acts one × Rose before now) Disks (RefusesJournal sense good old.replicas one)) is h.cause).0
+
+    pub step_journals : (result : Result T RunStop) → Handled result → (name : List ℕ) (cause : OpenFault) → result ≡ Err (stop.Journal name cause) → RefusesJournal sense good old.replicas one name cause
+    step_journals result h name cause is =
+        subst (λ r. IfErr r (IsStopFor (Acts one × Rose before now) Disks (RefusesJournal sense good old.replicas one))) is h.cause
+
+    pub step_disks : (result : Result T RunStop) → Handled result → NoneFell faults (disks_of old) (disks_of new)
+    step_disks result h =
+        subst (λ more. NoneFell faults (disks_of old) (map (λ r. r.kept.disk) new.replicas ++ more)) (sym spare) (none_fell faults old.replicas new.replicas old.spare h.later)
 
 -- a line that makes a message has room for it
 module _ {D : Type 0} (site : Site D) where

@@ -1,14 +1,33 @@
 -- Replicas that are opened one after another.
-use Rattle.std.proofs.Common.{◌≡◌, ℕ, suc, ◌+◌, ◌<◌, ◌≤◌, List, Option, [], ◌∷◌, ◌++◌, add-one, drop, drop-cons, get_or, length, map, refl, sym, ap, subst, ◌∙◌, append_assoc, arith, length-append}
-use Rattle.std.specs.List.{All, remove}
-use Rattle.std.proofs.lemmas.List.{length-map, map-append}
+use Rattle.std.proofs.Common.{◌≡◌, inl, inr, ℕ, suc, ◌+◌, ◌<◌, ◌≤◌, Bool, true, false, IsTrue, List, [], ◌∷◌, ◌++◌, add-one, drop, drop-cons, get_or, length, map, ◌⊎◌, cond, find, Option, None, Some, option_map, Result, Ok, Err, refl, sym, ap, subst, ◌∙◌, append_assoc, arith, length-append}
+use Rattle.std.specs.List.{All, AllByRecursion, remove}
+use Rattle.std.proofs.lemmas.Option.{same_Some}
+use Rattle.std.specs.Str.{bytes_eq}
+use Rattle.std.proofs.lemmas.List.{append-nil}
 use Rattle.std.proofs.lemmas.List.Elements.{All-head, All-tail}
+use Rattle.journal.specs.declared.fault.OpenFault.{OpenFault}
+use Rattle.journal.specs.declared.fault.OpenFault.TheVariants as fault
+use Rattle.outside.specs.Causes.{Rose}
+use Rattle.outside.specs.Crashes.{MayLeave}
+use Rattle.outside.specs.Disk.{Content}
 use Rattle.outside.specs.Envelope.{author_id}
+use Rattle.outside.specs.declared.faults.DiskStep.{DiskStep}
+use Rattle.outside.proofs.Crashes.{no_calls}
 use Rattle.policy_ast.specs.declared.policy.PlacedItem.{PlacedItem}
-use Rattle.replica.specs.Kept.{begun}
+use Rattle.replica.specs.Calls.{IsOpened}
+use Rattle.replica.specs.Disks.{OpensAlike, OpensWhole, OpensWithDisk, Sense}
+use Rattle.replica.specs.Fronts.{AnswersOpening, Front, OpensAs, Opens, front_of}
+use Rattle.replica.specs.Kept.{Kept}
 use Rattle.script_texts.specs.Bytes.{Bytes}
-use Rattle.world.specs.Worlds.{Named, Site, begun_on, opened}
-use Rattle.world.specs.working.Opening.{Opens, begun_by}
+use Rattle.world.specs.Crashes.{AreOpened, AreSafe, IsRefused, OpenWhole, OpensTo, RefusesFirst, criteria}
+use Rattle.world.specs.Stops.{NoneFell, SomeRose}
+use Rattle.world.specs.Worlds.{AreUp, EachPair, Named, kept_of}
+use Rattle.world.specs.declared.stop.RunStop.{RunStop}
+use Rattle.world.specs.declared.stop.RunStop.TheVariants as stop
+use Rattle.world.specs.working.Handling.{IsSafe}
+use Rattle.world.specs.working.Opening.{AllHonest, AreAllOpened, AreHandedBack, EachSafe, IsNotOpened, IsOpenedAs, IsOpeningStop, OpensDisk, OpensOne}
+use Rattle.world.specs.working.Stopping.{IsStopFor}
+use Rattle.world.proofs.PlaceFacts.{pair_same}
 
 -- the first is taken off
 pub first_off : {A : Type 0} (xs left : List A) (x : A) → 0 < length xs → x ≡ get_or xs 0 x → left ≡ remove xs 0 → xs ≡ x ∷ left
@@ -19,55 +38,218 @@ first_off (y ∷ ys) left x some is behind = ap (λ z. z ∷ ys) (sym is) ∙ ap
 name_at : (names : List Bytes) (i : ℕ) (name : Bytes) → i < length names → name ≡ get_or names i name → drop i names ≡ name ∷ drop (i + 1) names
 name_at names i name inside is = drop-cons names i name inside ∙ ap (λ l. l ∷ drop (suc i) names) (sym is) ∙ rw add-one refl
 
-module _ {D : Type 0} (all : List (Named D)) (spare disks : List D) (digest : List ℕ) where
-  opens_on : (room wide more_room more_wide : ℕ) (replicas : List (Named D)) (policy : List PlacedItem) (policies : List (List PlacedItem)) (name : Bytes) (names : List Bytes) (disk : D) (left : List D)
-      → room ≤ more_room → wide ≤ more_wide → Opens all spare disks room wide replicas (policy ∷ policies) digest (name ∷ names) (disk ∷ left)
-      → Opens all spare disks more_room more_wide (replicas ++ record { name = name; kept = begun policy digest (author_id name) disk } ∷ []) policies digest names left
-  opens_on room wide more_room more_wide replicas policy policies name names disk left up wider opens =
-      let one : Named D = record { name = name; kept = begun policy digest (author_id name) disk } in
-      record {
-        whole = append_assoc replicas (one ∷ []) (begun_by policies digest names left) ∙ opens.whole;
-        behind = opens.behind;
-        kept = ap (λ ds. ds ++ left) (map-append (λ (r : Named D). r.kept.disk) replicas (one ∷ [])) ∙ append_assoc (map (λ (r : Named D). r.kept.disk) replicas) (disk ∷ []) left ∙ opens.kept;
-        counted = omega (arith, opens.counted);
-        enough = omega (arith, opens.enough);
-        place = omega (arith, opens.place, up, length-append replicas (one ∷ []));
-        fits = omega (arith, opens.fits, wider, length-append replicas (one ∷ []));
-      }
+module _ {D : Type 0} (sense : Sense D) (good : List ℕ → List ℕ → List ℕ → Bool) (faults : D → ℕ) (policy : List PlacedItem) (digest : List ℕ) where
+  -- ---- disks that stay
 
-  -- one more is opened: the first runner, the name at hand and the first disk are taken
-  pub opens_more : {A : Type 0} (rules : A → List PlacedItem) (room wide more_room more_wide : ℕ) (replicas grown : List (Named D)) (runners behind : List A) (runner : A) (names : List Bytes) (i : ℕ) (name : Bytes)
-      (left rest : List D) (disk : D) (one : Named D) → room ≤ more_room → wide ≤ more_wide → i < length names → name ≡ get_or names i name → runner ≡ get_or runners 0 runner → behind ≡ remove runners 0
-      → disk ≡ get_or left 0 disk → rest ≡ remove left 0 → one ≡ record { name = name; kept = begun (rules runner) digest (author_id name) disk } → grown ≡ replicas ++ one ∷ []
-      → Opens all spare disks room wide replicas (map rules runners) digest (drop i names) left
-      → Opens all spare disks more_room more_wide grown (map rules behind) digest (drop (i + 1) names) rest
-  opens_more rules room wide more_room more_wide replicas grown runners behind runner names i name left rest disk one up wider inside named first others front later made added opens =
-      let at = subst (λ ns. Opens all spare disks room wide replicas (map rules runners) digest ns left) (name_at names i name inside named) opens in
-      let some : 0 < length runners = omega (arith, at.counted, length-map runners rules) in
-      let enough : 0 < length left = omega (arith, at.enough) in
-      let by = subst (λ rs. Opens all spare disks room wide replicas (map rules rs) digest (name ∷ drop (i + 1) names) left) (first_off runners behind runner some first others) at in
-      let on = subst (λ ds. Opens all spare disks room wide replicas (rules runner ∷ map rules behind) digest (name ∷ drop (i + 1) names) ds) (first_off left rest disk enough front later) by in
-      subst (λ rs. Opens all spare disks more_room more_wide rs (map rules behind) digest (drop (i + 1) names) rest) (sym (added ∙ ap (λ r. replicas ++ r ∷ []) made))
-      (opens_on room wide more_room more_wide replicas (rules runner) (map rules behind) name (drop (i + 1) names) disk rest up wider on)
+  still_whole : (content : Content) → OpensWhole (criteria sense good policy digest) content content
+  still_whole content = no_calls content (λ image. MayLeave content image ⊎ OpensAlike (criteria sense good policy digest) content.reads image) (λ image may. inl may)
 
--- all under one policy
-pub one_policy : {A D : Type 0} (rules : A → List PlacedItem) (policy : List PlacedItem) (runners : List A) (digest : List ℕ) (names : List Bytes) (disks : List D)
-    → length runners ≡ length names → All (λ r. rules r ≡ policy) runners → begun_by (map rules runners) digest names disks ≡ begun_on policy digest names disks
-one_policy rules policy [] digest [] disks counted each = refl
-one_policy rules policy [] digest (name ∷ names) disks counted each = absurd (omega (arith, counted))
-one_policy rules policy (r ∷ runners) digest [] disks counted each = absurd (omega (arith, counted))
-one_policy rules policy (r ∷ runners) digest (name ∷ names) [] counted each = refl
-one_policy {D = D} rules policy (r ∷ runners) digest (name ∷ names) (disk ∷ disks) counted each =
-    let same : rules r ≡ policy = All-head (λ x. rules x ≡ policy) r runners each in
-    ap (λ p. record { name = name; kept = begun p digest (author_id name) disk } ∷ begun_by (map rules runners) digest names disks) same
-    ∙ ap (λ (rs : List (Named D)). record { name = name; kept = begun policy digest (author_id name) disk } ∷ rs)
-    (one_policy rules policy runners digest names disks (omega (arith, counted)) (All-tail (λ x. rules x ≡ policy) r runners each))
+  all_whole : (disks : List D) → OpenWhole sense good policy digest disks disks
+  all_whole disks = pair_same (λ d e. OpensWhole (criteria sense good policy digest) (sense.content d) (sense.content e)) (λ d. still_whole (sense.content d)) disks
 
--- what was opened is the world as a run begins
-pub opened_as : {A D : Type 0} (rules : A → List PlacedItem) (policy : List PlacedItem) (runners : List A) (digest : List ℕ) (names : List Bytes) (disks : List D) (replicas : List (Named D)) (messages : List (Option (List ℕ)))
-    (spare : List D) → length runners ≡ length names → All (λ r. rules r ≡ policy) runners → replicas ≡ begun_by (map rules runners) digest names disks → messages ≡ [] → spare ≡ drop (length names) disks
-    → ◌≡◌ {A = Site D} record { replicas = replicas; messages = messages; spare = spare } (opened policy digest names disks)
-opened_as {D = D} rules policy runners digest names disks replicas messages spare counted each begun none behind =
-    ap (λ (rs : List (Named D)). record { replicas = rs; messages = messages; spare = spare }) (begun ∙ one_policy rules policy runners digest names disks counted each)
-    ∙ ap (λ (ms : List (Option (List ℕ))). record { replicas = begun_on policy digest names disks; messages = ms; spare = spare }) none
-    ∙ ap (λ (ds : List D). record { replicas = begun_on policy digest names disks; messages = []; spare = ds }) behind
+  none_fall : (disks : List D) → NoneFell faults disks disks
+  none_fall disks = pair_same (λ d e. faults d ≤ faults e) (λ d. omega arith) disks
+
+  -- ---- one replica
+
+  still_disk : (disk : D) → OpensDisk sense good faults policy digest disk disk
+  still_disk disk = record { later = omega arith; whole = λ tells honest. still_whole (sense.content disk) }
+
+  pub not_opened : (name : Bytes) (disk : D) (why : RunStop) → why ≡ stop.NoMemory → IsNotOpened sense good faults policy digest name disk why disk
+  not_opened name disk why none = record {
+    cause = subst (IsStopFor ⊥ (Rose (faults disk) (faults disk)) (λ told cause. (told ≡ name) × IsRefused sense good (criteria sense good policy digest) disk cause)) (sym none) tt;
+    disk_then = still_disk disk;
+  }
+
+  module _ (last_step : D → Option DiskStep) (name : Bytes) (disk : D) where
+    pub opened_one : (one : Named D) → one.name ≡ name → IsOpened policy digest (author_id name) one.kept → (IsTrue sense.tells → AnswersOpening (criteria sense good policy digest) (sense.content disk).reads (Ok (front_of one.kept.held)))
+        → (IsTrue sense.tells → IsTrue (sense.honest disk) → IsSafe sense good one.kept) → OpensWithDisk faults last_step disk one.kept.disk (Ok (front_of one.kept.held))
+        → (IsTrue sense.tells → IsTrue (sense.honest disk) → OpensWhole (criteria sense good policy digest) (sense.content disk) (sense.content one.kept.disk)) → IsOpenedAs sense good faults policy digest name disk one
+    opened_one one named opened opens safe with_disk whole =
+        record { named = named; opened = opened; opens = opens; safe = safe; disk_then = record { later = with_disk.later; whole = whole } }
+
+    refused_cause : (why : OpenFault) (s : RunStop) (back : D) → IsOpeningStop name why s → (IsTrue sense.tells → AnswersOpening (criteria sense good policy digest) (sense.content disk).reads (Err why))
+        → ((step : DiskStep) → why ≡ fault.DiskFault step → Rose (faults disk) (faults back))
+        → IsStopFor ⊥ (Rose (faults disk) (faults back)) (λ told cause. (told ≡ name) × IsRefused sense good (criteria sense good policy digest) disk cause) s
+    refused_cause (fault.Damaged offset) s back is opens rose =
+        subst (IsStopFor ⊥ (Rose (faults disk) (faults back)) (λ told cause. (told ≡ name) × IsRefused sense good (criteria sense good policy digest) disk cause)) (sym is) (refl, (tt, opens))
+    refused_cause (fault.OtherPolicy other) s back is opens rose =
+        subst (IsStopFor ⊥ (Rose (faults disk) (faults back)) (λ told cause. (told ≡ name) × IsRefused sense good (criteria sense good policy digest) disk cause)) (sym is) (refl, (tt, opens))
+    refused_cause (fault.DiskFault step) s back is opens rose =
+        subst (IsStopFor ⊥ (Rose (faults disk) (faults back)) (λ told cause. (told ≡ name) × IsRefused sense good (criteria sense good policy digest) disk cause)) (sym is) (rose step refl)
+    refused_cause fault.NoMemory s back is opens rose =
+        subst (IsStopFor ⊥ (Rose (faults disk) (faults back)) (λ told cause. (told ≡ name) × IsRefused sense good (criteria sense good policy digest) disk cause)) (sym is) tt
+
+    pub refused_one : (own : Bytes) (why : OpenFault) (s : RunStop) (back : D) → own ≡ name → IsOpeningStop own why s → (IsTrue sense.tells → AnswersOpening (criteria sense good policy digest) (sense.content disk).reads (Err why))
+        → OpensWithDisk {T = Front} faults last_step disk back (Err why) → (IsTrue sense.tells → IsTrue (sense.honest disk) → OpensWhole (criteria sense good policy digest) (sense.content disk) (sense.content back))
+        → IsNotOpened sense good faults policy digest name disk s back
+    refused_one own why s back same is opens with_disk whole = record {
+      cause = refused_cause why s back (subst (λ n. IsOpeningStop n why s) same is) opens (λ step told. (with_disk.cause step (ap Err told)).0);
+      disk_then = record { later = with_disk.later; whole = whole };
+    }
+
+  -- ---- those so far
+
+  -- What was opened so far, before the names and the disks that are left.
+  pub record Opening (names : List Bytes) (disks : List D) (replicas : List (Named D)) (ns : List Bytes) (left : List D) : Type 0 where
+    pub opened : (rest : List (Named D)) → AreOpened sense good policy digest ns left rest → AreOpened sense good policy digest names disks (replicas ++ rest)
+    pub refuses : (n : Bytes) (c : OpenFault) → RefusesFirst sense good policy digest ns left n c → RefusesFirst sense good policy digest names disks n c
+    pub up : AreUp replicas
+    pub fell : (news : List D) → NoneFell faults left news → NoneFell faults disks (map (λ r. r.kept.disk) replicas ++ news)
+    pub rose : (news : List D) → SomeRose faults left news → SomeRose faults disks (map (λ r. r.kept.disk) replicas ++ news)
+    pub crash : IsTrue sense.tells → AllHonest sense good faults policy digest disks
+        → AllHonest sense good faults policy digest left × EachSafe sense good faults policy digest replicas
+        × ((news : List D) → OpenWhole sense good policy digest left news → OpenWhole sense good policy digest disks (map (λ r. r.kept.disk) replicas ++ news))
+
+  none_opened : (names : List Bytes) (disks : List D) → Opening names disks [] names disks
+  none_opened names disks = record {
+    opened = λ rest opened. opened;
+    refuses = λ n c refuses. refuses;
+    up = tt;
+    fell = λ news fell. fell;
+    rose = λ news rose. rose;
+    crash = λ tells honest. (honest, tt, λ news whole. whole);
+  }
+
+  up_more : (rs : List (Named D)) (r : Named D) → AreUp rs → r.kept.down ≡ None → AreUp (rs ++ r ∷ [])
+  up_more [] r up is = (is, tt)
+  up_more (x ∷ xs) r up is = (up.0, up_more xs r up.1 is)
+
+  safe_more : (rs : List (Named D)) (r : Named D) → EachSafe sense good faults policy digest rs → IsSafe sense good r.kept → EachSafe sense good faults policy digest (rs ++ r ∷ [])
+  safe_more [] r each is = (is, tt)
+  safe_more (x ∷ xs) r each is = (each.0, safe_more xs r each.1 is)
+
+  disks_more : (rs : List (Named D)) (r : Named D) (news : List D) → map (λ (x : Named D). x.kept.disk) rs ++ r.kept.disk ∷ news ≡ map (λ (x : Named D). x.kept.disk) (rs ++ r ∷ []) ++ news
+  disks_more [] r news = refl
+  disks_more (x ∷ xs) r news = ap (λ ds. x.kept.disk ∷ ds) (disks_more xs r news)
+
+  opening_more : (names : List Bytes) (disks : List D) (replicas : List (Named D)) (name : Bytes) (ns : List Bytes) (disk : D) (left : List D) (one : Named D) → Opening names disks replicas (name ∷ ns) (disk ∷ left)
+      → IsOpenedAs sense good faults policy digest name disk one → Opening names disks (replicas ++ one ∷ []) ns left
+  opening_more names disks replicas name ns disk left one o is = record {
+    opened = λ rest opened. subst (AreOpened sense good policy digest names disks) (sym (append_assoc replicas (one ∷ []) rest)) (o.opened (one ∷ rest) (is.named, is.opened, is.opens, opened));
+    refuses = λ n c refuses. o.refuses n c (inr ((front_of one.kept.held, is.opens), refuses));
+    up = up_more replicas one o.up (ap (λ (k : Kept D). k.down) is.opened.same);
+    fell = λ news fell. subst (NoneFell faults disks) (disks_more replicas one news) (o.fell (one.kept.disk ∷ news) (is.disk_then.later, fell));
+    rose = λ news rose. subst (SomeRose faults disks) (disks_more replicas one news) (o.rose (one.kept.disk ∷ news) (inr rose));
+    crash = λ tells honest.
+        let c = o.crash tells honest in (
+          c.0.1,
+          safe_more replicas one c.1 (is.safe tells c.0.0),
+          λ news whole. subst (OpenWhole sense good policy digest disks) (disks_more replicas one news) (c.2 (one.kept.disk ∷ news) (is.disk_then.whole tells c.0.0, whole)),
+        );
+  }
+
+  opening_ends : (names : List Bytes) (disks : List D) (replicas : List (Named D)) (left : List D) → Opening names disks replicas [] left → left ≡ drop (length names) disks → AreAllOpened sense good faults policy digest names disks replicas left
+  opening_ends names disks replicas left o behind = record {
+    opened = subst (AreOpened sense good policy digest names disks) (append-nil replicas) (o.opened [] tt);
+    behind = behind;
+    up = o.up;
+    none_fell = o.fell left (none_fall left);
+    crash = λ tells honest. let c = o.crash tells honest in (c.2 left (all_whole left), c.1);
+  }
+
+  opening_stops : (names : List Bytes) (disks : List D) (replicas : List (Named D)) (name : Bytes) (ns : List Bytes) (disk : D) (left : List D) (why : RunStop) (back : D) → Opening names disks replicas (name ∷ ns) (disk ∷ left)
+      → IsNotOpened sense good faults policy digest name disk why back → AreHandedBack sense good faults policy digest names disks why (map (λ r. r.kept.disk) replicas ++ back ∷ left)
+  opening_stops names disks replicas name ns disk left why back o is = record {
+    cause = by why is.cause;
+    none_fell = o.fell (back ∷ left) (is.disk_then.later, none_fall left);
+    crash = λ tells honest. let c = o.crash tells honest in c.2 (back ∷ left) (is.disk_then.whole tells c.0.0, all_whole left);
+  }
+    where
+      by : (s : RunStop) → IsStopFor ⊥ (Rose (faults disk) (faults back)) (λ told cause. (told ≡ name) × IsRefused sense good (criteria sense good policy digest) disk cause) s
+          → IsStopFor ⊥ (SomeRose faults disks (map (λ r. r.kept.disk) replicas ++ back ∷ left)) (RefusesFirst sense good policy digest names disks) s
+      by stop.DiskFault rose = o.rose (back ∷ left) (inl rose)
+      by stop.SealFault none = none
+      by (stop.Journal n c) refused = o.refuses n c (inl refused)
+      by stop.NoMemory none = tt
+
+  pub handed_back : (names : List Bytes) (disks : List D) (why : RunStop) → why ≡ stop.NoMemory → AreHandedBack sense good faults policy digest names disks why disks
+  handed_back names disks why none = record {
+    cause = subst (IsStopFor ⊥ (SomeRose faults disks disks) (RefusesFirst sense good policy digest names disks)) (sym none) tt;
+    none_fell = none_fall disks;
+    crash = λ tells honest. all_whole disks;
+  }
+
+  -- each replica that is found is safe
+  safe_first : (b : Bool) (r : Named D) (rs : List (Named D)) (a : Bytes) (kept : Kept D) → option_map (λ (x : Named D). x.kept) (cond b (Some r) (find (λ x. bytes_eq x.name a) rs)) ≡ Some kept → IsSafe sense good r.kept
+      → (kept_of rs a ≡ Some kept → IsSafe sense good kept) → IsSafe sense good kept
+  safe_first true r rs a kept is safe behind = subst (IsSafe sense good) (same_Some r.kept kept is) safe
+  safe_first false r rs a kept is safe behind = behind is
+
+  pub all_safe : (rs : List (Named D)) → EachSafe sense good faults policy digest rs → AreSafe sense good rs
+  all_safe [] each = λ a kept is. absurd cc
+  all_safe (r ∷ rs) each = λ a kept is. safe_first (bytes_eq r.name a) r rs a kept is each.0 (λ there. all_safe rs each.1 a kept there)
+
+-- ---- the loop over names
+
+-- There is room for what is left to open, and for handing all disks back.
+pub record HasRoom {A D : Type 0} (names : List Bytes) (disks : List D) (room wide : ℕ) (replicas : List (Named D)) (runners : List A) (ns : List Bytes) (left : List D) : Type 0 where
+  pub behind : drop (length ns) left ≡ drop (length names) disks
+  pub counted : length runners ≡ length ns
+  pub enough : length ns ≤ length left
+  pub place : length replicas + length ns ≤ room
+  pub fits : length replicas + length left ≤ wide
+
+-- And each policy under which the runners are is that of what was opened.
+pub record OpensSo {A D : Type 0} (sense : Sense D) (good : List ℕ → List ℕ → List ℕ → Bool) (faults : D → ℕ) (digest : List ℕ) (rules : A → List PlacedItem) (all : List A) (names : List Bytes) (disks : List D) (room wide : ℕ)
+    (replicas : List (Named D)) (runners : List A) (ns : List Bytes) (left : List D) : Type 0 where
+  pub has_room : HasRoom names disks room wide replicas runners ns left
+  pub opening : (policy : List PlacedItem) → All (λ r. rules r ≡ policy) all → All (λ r. rules r ≡ policy) runners × Opening sense good faults policy digest names disks replicas ns left
+
+module _ {A D : Type 0} (sense : Sense D) (good : List ℕ → List ℕ → List ℕ → Bool) (faults : D → ℕ) (digest : List ℕ) (rules : A → List PlacedItem) (all : List A) (names : List Bytes) (disks : List D) where
+  pub opens_first : (room wide : ℕ) → length all ≡ length names → length names ≤ length disks → length names ≤ room → length disks ≤ wide
+      → OpensSo sense good faults digest rules all names disks room wide [] all names disks
+  opens_first room wide counted enough place fits = record {
+    has_room = record { behind = refl; counted = counted; enough = enough; place = omega (arith, place); fits = omega (arith, fits) };
+    opening = λ policy each. (each, none_opened sense good faults policy digest names disks);
+  }
+
+  module _ (room wide : ℕ) (replicas : List (Named D)) (runners behind : List A) (runner : A) (i : ℕ) (name : Bytes) (left rest : List D) (disk : D)
+      (inside : i < length names) (named : name ≡ get_or names i name) (first : runner ≡ get_or runners 0 runner) (others : behind ≡ remove runners 0) (front : disk ≡ get_or left 0 disk) (later : rest ≡ remove left 0)
+      (so : OpensSo sense good faults digest rules all names disks room wide replicas runners (drop i names) left) where
+    at_name : OpensSo sense good faults digest rules all names disks room wide replicas (runner ∷ behind) (name ∷ drop (i + 1) names) (disk ∷ rest)
+    at_name =
+        let at = subst (λ ns. OpensSo sense good faults digest rules all names disks room wide replicas runners ns left) (name_at names i name inside named) so in
+        let some : 0 < length runners = omega (arith, at.has_room.counted) in
+        let enough : 0 < length left = omega (arith, at.has_room.enough) in
+        let by = subst (λ rs. OpensSo sense good faults digest rules all names disks room wide replicas rs (name ∷ drop (i + 1) names) left) (first_off runners behind runner some first others) at in
+        subst (λ ds. OpensSo sense good faults digest rules all names disks room wide replicas (runner ∷ behind) (name ∷ drop (i + 1) names) ds) (first_off left rest disk enough front later) by
+
+    pub opens_more : (more_room more_wide : ℕ) (grown : List (Named D)) (one : Named D) → room ≤ more_room → wide ≤ more_wide → OpensOne sense good faults (rules runner) digest name disk (Ok one) → grown ≡ replicas ++ one ∷ []
+        → OpensSo sense good faults digest rules all names disks more_room more_wide grown behind (drop (i + 1) names) rest
+    opens_more more_room more_wide grown one up wider is added =
+        let at = at_name in
+        subst (λ rs. OpensSo sense good faults digest rules all names disks more_room more_wide rs behind (drop (i + 1) names) rest) (sym added) (record {
+          has_room = record {
+            behind = at.has_room.behind;
+            counted = omega (arith, at.has_room.counted);
+            enough = omega (arith, at.has_room.enough);
+            place = omega (arith, at.has_room.place, up, length-append replicas (one ∷ []));
+            fits = omega (arith, at.has_room.fits, wider, length-append replicas (one ∷ []));
+          };
+          opening = λ policy each. by policy (at.opening policy each);
+        })
+      where
+        by : (policy : List PlacedItem) → All (λ r. rules r ≡ policy) (runner ∷ behind) × Opening sense good faults policy digest names disks replicas (name ∷ drop (i + 1) names) (disk ∷ rest)
+            → All (λ r. rules r ≡ policy) behind × Opening sense good faults policy digest names disks (replicas ++ one ∷ []) (drop (i + 1) names) rest
+        by policy (each, o) = (
+          All-tail (λ r. rules r ≡ policy) runner behind each,
+          opening_more sense good faults policy digest names disks replicas name (drop (i + 1) names) disk rest one o
+              (subst (λ p. IsOpenedAs sense good faults p digest name disk one) (All-head (λ r. rules r ≡ policy) runner behind each) is),
+        )
+
+    pub opens_no_more : (why : RunStop) (back : D) (handed : List D) → OpensOne sense good faults (rules runner) digest name disk (Err (why, back)) → handed ≡ map (λ r. r.kept.disk) replicas ++ back ∷ rest
+        → (policy : List PlacedItem) → All (λ r. rules r ≡ policy) all → AreHandedBack sense good faults policy digest names disks why handed
+    opens_no_more why back handed is same policy each = by (at_name.opening policy each)
+      where
+        by : All (λ r. rules r ≡ policy) (runner ∷ behind) × Opening sense good faults policy digest names disks replicas (name ∷ drop (i + 1) names) (disk ∷ rest) → AreHandedBack sense good faults policy digest names disks why handed
+        by (own, o) =
+            subst (AreHandedBack sense good faults policy digest names disks why) (sym same)
+            (opening_stops sense good faults policy digest names disks replicas name (drop (i + 1) names) disk rest why back o
+            (subst (λ p. IsNotOpened sense good faults p digest name disk why back) (All-head (λ r. rules r ≡ policy) runner behind own) is))
+
+  pub opens_last : (room wide : ℕ) (replicas : List (Named D)) (runners : List A) (ns : List Bytes) (left : List D) → OpensSo sense good faults digest rules all names disks room wide replicas runners ns left → ns ≡ []
+      → (policy : List PlacedItem) → All (λ r. rules r ≡ policy) all → AreAllOpened sense good faults policy digest names disks replicas left
+  opens_last room wide replicas runners ns left so none policy each =
+      let at = subst (λ l. OpensSo sense good faults digest rules all names disks room wide replicas runners l left) none so in
+      opening_ends sense good faults policy digest names disks replicas left (at.opening policy each).1 at.has_room.behind

@@ -1,6 +1,5 @@
 -- The rounds of a session: each next request asks from behind the commands that were met.
-use Rattle.std.proofs.Common.{◌≡◌, ℕ, ◌+◌, ◌<◌, ◌≤◌, ◌^◌, inl, inr, Bool, true, false, if◌then◌else◌, List, [], ◌∷◌, ◌++◌, length, Option, Some, None, Result, Ok, Err, refl, sym, ap, subst, ◌∙◌, arith, length-append}
-use Rattle.std.specs.List.{list_any}
+use Rattle.std.proofs.Common.{◌≡◌, ℕ, ◌+◌, ◌<◌, ◌≤◌, ◌^◌, Bool, true, false, if◌then◌else◌, List, [], ◌∷◌, ◌++◌, length, Option, Some, None, Ok, Err, refl, sym, ap, subst, ◌∙◌, arith, length-append}
 use Rattle.std.specs.Str.{bytes_eq}
 use Rattle.accept.specs.Takes.{IsTakenOn, Tally, counted, no_tally}
 use Rattle.accept.specs.declared.answer.Admit.{Admit}
@@ -8,7 +7,7 @@ use Rattle.accept.specs.declared.answer.Admit.TheVariants.{Added, Repeat, Refuse
 use Rattle.base_bytes.specs.Laws.{IsUnambiguous}
 use Rattle.braid_run.specs.Soundness.{Criteria}
 use Rattle.command.specs.declared.command.Command.{Command}
-use Rattle.replica.specs.Calls.{Asks, Answers, AsksNext, TakesIn}
+use Rattle.replica.specs.Calls.{Asks, TakesIn}
 use Rattle.replica.specs.Kept.{Kept, criteria_of}
 use Rattle.replica.specs.Messages.{AreNextBytes, IsRead, IsSpelled, for_graph}
 use Rattle.replica.specs.declared.counts.Taken.{Taken}
@@ -19,14 +18,7 @@ use Rattle.sync_codec.specs.Messages.{IsRequest, IsResponse}
 use Rattle.sync_codec.specs.declared.request.Request.{Request}
 use Rattle.sync_codec.specs.declared.response.Response.{Response}
 use Rattle.sync_peer.specs.Messages.{next_of, request_of}
-use Rattle.world.specs.Sessions.{Goes, IsRound, Session, Sum, no_sum, with_taken}
-use Rattle.world.specs.Sessions.Goes.{begins, more}
-use Rattle.world.specs.Sessions.Session.{done, no_answer, no_next, no_request, no_take}
-use Rattle.world.specs.Worlds.{Changes, Named, Of, with_kept}
-use Rattle.world.proofs.KeepFacts.{take_keeps}
-use Rattle.world.proofs.PlaceFacts.{unchanged}
-use Rattle.world.specs.working.Places.{is_named}
-use Rattle.world.specs.working.Rounds.{GoesRound}
+use Rattle.world.specs.Sessions.{Sum, no_sum, with_taken}
 
 -- ---- what is read was spelled
 
@@ -74,7 +66,7 @@ pub record Meets (bytes : Bytes) (taken : Taken) : Type 0 where
 module _ {D : Type 0} (good : List ℕ → List ℕ → List ℕ → Bool) where
   pub taken_meets : (old new : Kept D) (bytes : Bytes) (taken : Taken) → TakesIn old good bytes (Ok taken) new → Meets bytes taken
   unfolding met_in met_by
-  taken_meets old new bytes taken (response, read, (held, takes, same)) =
+  taken_meets old new bytes taken (up, (held, (response, read, takes), is)) =
       let all : met_by takes.tally ≡ met_by no_tally + length response.commands = met_all (criteria_of good old) old.held.graph_id old.held.commands no_tally response.commands takes.tally takes.take in
       let refused : length taken.refused ≡ length takes.tally.refused = ap length takes.told.refused in
       record {
@@ -119,7 +111,7 @@ pub record AsksBehind (sum : Sum) (request : Bytes) : Type 0 where
 -- the first request asks from the start
 pub asks_first : {D : Type 0} (kept : Kept D) (request : Bytes) → Asks kept (Ok request) → AsksBehind no_sum request
 unfolding met_commands
-asks_first kept request (id, is, spelled) = record { message = request_of id kept.held.commands; spelled = spelled; from = refl; few = omega arith }
+asks_first kept request (up, (id, is, spelled)) = record { message = request_of id kept.held.commands; spelled = spelled; from = refl; few = omega arith }
 
 -- one answer brings a command at least, where another request follows
 pub record IsFurther (old new : Sum) (next : Bytes) : Type 0 where
@@ -127,7 +119,7 @@ pub record IsFurther (old new : Sum) (next : Bytes) : Type 0 where
   pub meets_more : met_commands old < met_commands new
 
 -- a request, its response, and the request that follows
-further : (sum : Sum) (request bytes next : Bytes) (taken : Taken) (asked : Request) (answered : Response) (again : Response) → IsUnambiguous IsRequest → IsUnambiguous IsResponse → AsksBehind sum request →
+pub further : (sum : Sum) (request bytes next : Bytes) (taken : Taken) (asked : Request) (answered : Response) (again : Response) → IsUnambiguous IsRequest → IsUnambiguous IsResponse → AsksBehind sum request →
     IsRequest asked request → answered.from ≡ asked.from → IsResponse answered bytes → Meets bytes taken → IsResponse again bytes → AreNextBytes (next_of again) (Some next) → IsFurther sum (with_taken sum taken) next
 unfolding following
 further sum request bytes next taken asked answered again requests responses behind asks from answers meets reads are =
@@ -155,135 +147,10 @@ pub record IsSmall (sum : Sum) (taken : Taken) : Type 0 where
   pub added : sum.added + taken.added < 2 ^ 64
   pub repeats : sum.repeats + taken.repeats < 2 ^ 64
 
-small : (sum : Sum) (request bytes : Bytes) (taken : Taken) → AsksBehind sum request → Meets bytes taken → IsSmall sum taken
+pub small : (sum : Sum) (request bytes : Bytes) (taken : Taken) → AsksBehind sum request → Meets bytes taken → IsSmall sum taken
 unfolding met_commands met_in
 small sum request bytes taken behind meets =
     let most = few_met sum request behind in
     let few = few_commands bytes taken meets in
     let answers = behind.few in
     record { answers = omega arith; added = omega arith; repeats = omega arith }
-
--- ---- the rounds of a session
-
--- behind a take the replicas have the same names
-pub named_behind : {D : Type 0} (good : List ℕ → List ℕ → List ℕ → Bool) (bytes : Bytes) (result : Result Taken Refusal) (name x : Bytes) (old new : List (Named D)) →
-    Changes old name (λ before after. TakesIn before good bytes result after) new → is_named old x ≡ true → is_named new x ≡ true
-named_behind good bytes result name x old new changes there =
-    let keeps = take_keeps good bytes result name old new changes in
-    ap (λ names. list_any (λ other. bytes_eq other x) names) keeps.names ∙ there
-
-module _ {D : Type 0} (good : List ℕ → List ℕ → List ℕ → Bool) (a b : Bytes) where
-  -- So far a session came, and the two replicas are there.
-  pub record HasCome (first old : List (Named D)) (request : Bytes) (sum : Sum) : Type 0 where
-    pub goes : Goes good a b first old request sum
-    pub behind : AsksBehind sum request
-    pub a_there : is_named old a ≡ true
-    pub b_there : is_named old b ≡ true
-
-  pub begun : (first : List (Named D)) (request : Bytes) → Of first a (λ kept. Asks kept (Ok request)) → is_named first a ≡ true → is_named first b ≡ true → HasCome first first request no_sum
-  begun first request (kept, is, asks) a_there b_there = record { goes = begins (kept, is, asks); behind = asks_first kept request asks; a_there = a_there; b_there = b_there }
-
-  meets_of : (old new : List (Named D)) (request : Bytes) (taken : Taken) (next : Result (Option Bytes) Refusal) (round : IsRound good a b old request taken next new) → Meets round.response taken
-  meets_of old new request taken next round = let take = round.take in taken_meets good take.0 take.1 round.response taken take.3
-
-  -- one take more can be added up
-  pub small_round : (first old new : List (Named D)) (request : Bytes) (sum : Sum) (taken : Taken) (next : Result (Option Bytes) Refusal) → HasCome first old request sum → IsRound good a b old request taken next new → IsSmall sum taken
-  small_round first old new request sum taken next come round = small sum request round.response taken come.behind (meets_of old new request taken next round)
-
-  -- what the next request of a round asks for
-  further_round : (old new : List (Named D)) (request next : Bytes) (sum : Sum) (taken : Taken) → IsUnambiguous IsRequest → IsUnambiguous IsResponse → AsksBehind sum request → IsRound good a b old request taken (Ok (Some next)) new →
-      IsFurther sum (with_taken sum taken) next
-  further_round old new request next sum taken requests responses behind round =
-      let answers = round.answer in
-      let asked = answers.2.0 in
-      let answered = answers.2.2.0 in
-      let asks_next = round.asks_next in
-      further sum request round.response next taken asked answered asks_next.2.0 requests responses behind
-      (read_form IsRequest (λ m. m.graph) request answers.0.held.graph_id asked answers.2.1)
-      (ap (λ (r : Response). r.from) answers.2.2.1.same_response) answers.2.2.2
-      (meets_of old new request taken (Ok (Some next)) round)
-      (read_form IsResponse (λ m. m.graph) round.response asks_next.0.held.graph_id asks_next.2.0 asks_next.2.1)
-      asks_next.2.2
-
-  names_stay : (old new : List (Named D)) (request : Bytes) (taken : Taken) (next : Result (Option Bytes) Refusal) (x : Bytes) → IsRound good a b old request taken next new → is_named old x ≡ true → is_named new x ≡ true
-  names_stay old new request taken next x round there = named_behind good round.response (Ok taken) a x old new round.take there
-
-  -- A session goes on by a round, which meets commands.
-  pub record GoesOn (first new : List (Named D)) (next : Bytes) (old_sum sum : Sum) : Type 0 where
-    pub come : HasCome first new next sum
-    pub meets_more : met_commands old_sum < met_commands sum
-    pub most : met_commands sum ≤ 65536
-
-  pub round_on : (first old new : List (Named D)) (request next : Bytes) (sum : Sum) (taken : Taken) → IsUnambiguous IsRequest → IsUnambiguous IsResponse → HasCome first old request sum →
-      IsRound good a b old request taken (Ok (Some next)) new → GoesOn first new next sum (with_taken sum taken)
-  round_on first old new request next sum taken requests responses come round =
-      let on = further_round old new request next sum taken requests responses come.behind round in
-      record {
-        come = record {
-          goes = more come.goes round;
-          behind = on.behind;
-          a_there = names_stay old new request taken (Ok (Some next)) a round come.a_there;
-          b_there = names_stay old new request taken (Ok (Some next)) b round come.b_there;
-        };
-        meets_more = on.meets_more;
-        most = few_met (with_taken sum taken) next on.behind;
-      }
-
-  -- where a round is refused, the session ends
-  pub refused_round : (first old new : List (Named D)) (request bytes : Bytes) (sum : Sum) (why : Refusal) → HasCome first old request sum → bytes ≡ request → GoesRound good a b old bytes (Err why) new → Session good a b first (Err why) new
-  refused_round first old new request bytes sum why come same went =
-      ends come.goes (subst (λ asked. GoesRound good a b old asked (Err why) new) same went)
-    where
-      ends : Goes good a b first old request sum → GoesRound good a b old request (Err why) new → Session good a b first (Err why) new
-      ends goes (inl (stays, refused)) = subst (Session good a b first (Err why)) (sym stays) (no_answer goes refused)
-      ends goes (inr (inl (stays, (response, answered, refused)))) = subst (Session good a b first (Err why)) (sym stays) (no_take goes answered refused)
-      ends goes (inr (inr (taken, round))) = no_next goes round
-
-  -- ---- a round, by its events
-
-  pub unanswered : (old rs : List (Named D)) (request : Bytes) (why : Refusal) → rs ≡ old → Of rs b (λ kept. Answers kept request (Err why)) → GoesRound good a b old request (Err why) old
-  unanswered old rs request why same refused = inl (refl, subst (λ l. Of l b (λ kept. Answers kept request (Err why))) same refused)
-
-  pub untaken : (old rs new : List (Named D)) (request response bytes : Bytes) (why : Refusal) → rs ≡ old → Of rs b (λ kept. Answers kept request (Ok response)) → bytes ≡ response →
-      Changes old a (λ before after. TakesIn before good bytes (Err why) after) new → GoesRound good a b old request (Err why) new
-  untaken old rs new request response bytes why same answered spelled (before, after, is, step, set) =
-      inr (inl (
-        set ∙ ap (with_kept old a) step.0 ∙ unchanged old a before is,
-        (response, subst (λ l. Of l b (λ kept. Answers kept request (Ok response))) same answered, (before, is, subst (λ m. TakesIn before good m (Err why) before) spelled (refl, step.1))),
-      ))
-
-  pub whole : (old rs new us : List (Named D)) (request response bytes : Bytes) (taken : Taken) (next : Result (Option Bytes) Refusal) → rs ≡ old → Of rs b (λ kept. Answers kept request (Ok response)) → bytes ≡ response →
-      Changes old a (λ before after. TakesIn before good bytes (Ok taken) after) new → us ≡ new → Of us a (λ kept. AsksNext kept bytes next) → IsRound good a b old request taken next new
-  whole old rs new us request response bytes taken next same answered spelled takes stays asks = record {
-    response = response;
-    answer = subst (λ l. Of l b (λ kept. Answers kept request (Ok response))) same answered;
-    take = subst (λ m. Changes old a (λ before after. TakesIn before good m (Ok taken) after) new) spelled takes;
-    asks_next = subst (λ m. Of new a (λ kept. AsksNext kept m next)) spelled (subst (λ l. Of l a (λ kept. AsksNext kept bytes next)) stays asks);
-  }
-
-  -- ---- the loop of rounds
-
-  pub starts : (first rs : List (Named D)) (request : Bytes) (sum : Sum) → rs ≡ first → Of rs a (λ kept. Asks kept (Ok request)) → sum ≡ no_sum → is_named first a ≡ true → is_named first b ≡ true → HasCome first first request sum
-  starts first rs request sum same asks none a_there b_there =
-      subst (HasCome first first request) (sym none) (begun first request (subst (λ l. Of l a (λ kept. Asks kept (Ok request))) same asks) a_there b_there)
-
-  pub unasked : (first rs : List (Named D)) (why : Refusal) → rs ≡ first → Of rs a (λ kept. Asks kept (Err why)) → Session good a b first (Err why) first
-  unasked first rs why same refused = no_request (subst (λ l. Of l a (λ kept. Asks kept (Err why))) same refused)
-
-  pub round_of : (old new : List (Named D)) (request bytes : Bytes) (taken : Taken) (next : Result (Option Bytes) Refusal) → bytes ≡ request → IsRound good a b old bytes taken next new → IsRound good a b old request taken next new
-  round_of old new request bytes taken next same round = subst (λ asked. IsRound good a b old asked taken next new) same round
-
-  pub small_sums : (first old new : List (Named D)) (request bytes : Bytes) (sum : Sum) (taken : Taken) (next : Result (Option Bytes) Refusal) → HasCome first old request sum → bytes ≡ request → IsRound good a b old bytes taken next new → IsSmall sum taken
-  small_sums first old new request bytes sum taken next come same round = small_round first old new request sum taken next come (round_of old new request bytes taken next same round)
-
-  pub goes_on : (first old new : List (Named D)) (request bytes next : Bytes) (sum sums : Sum) (taken : Taken) (found : Option Bytes) → IsUnambiguous IsRequest → IsUnambiguous IsResponse → HasCome first old request sum → bytes ≡ request →
-      IsRound good a b old bytes taken (Ok found) new → found ≡ Some next → sums ≡ with_taken sum taken → GoesOn first new next sum sums
-  goes_on first old new request bytes next sum sums taken found requests responses come same round is adds =
-      let whole_round : IsRound good a b old request taken (Ok (Some next)) new = subst (λ n. IsRound good a b old request taken (Ok n) new) is (round_of old new request bytes taken (Ok found) same round) in
-      subst (GoesOn first new next sum) (sym adds) (round_on first old new request next sum taken requests responses come whole_round)
-
-  pub finishes : (first old new : List (Named D)) (request bytes : Bytes) (sum sums : Sum) (taken : Taken) (found : Option Bytes) → HasCome first old request sum → bytes ≡ request →
-      IsRound good a b old bytes taken (Ok found) new → found ≡ None → sums ≡ with_taken sum taken → Session good a b first (Ok sums) new
-  finishes first old new request bytes sum sums taken found come same round is adds =
-      let whole_round : IsRound good a b old request taken (Ok None) new = subst (λ n. IsRound good a b old request taken (Ok n) new) is (round_of old new request bytes taken (Ok found) same round) in
-      subst (λ s. Session good a b first (Ok s) new) (sym adds) (done come.goes whole_round)

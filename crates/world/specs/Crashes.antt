@@ -1,5 +1,5 @@
 -- What a crash may leave of the disks of a world: each opens to what its replica holds behind some front of the events.
-use Rattle.std.specs.Prelude.{◌≡◌, ◌⊎◌, ⊥, ℕ, Bool, IsTrue, List, [], ◌∷◌, drop, length, Some, Vec, Result, Ok, Err}
+use Rattle.std.specs.Prelude.{◌≡◌, ◌⊎◌, ℕ, Bool, IsTrue, List, [], ◌∷◌, drop, length, Some, Vec, Result, Ok, Err}
 use Rattle.std.specs.declared.alloc.Global.{Global}
 use Rattle.braid_run.specs.Soundness.{Criteria}
 use Rattle.journal.specs.declared.fault.OpenFault.{OpenFault}

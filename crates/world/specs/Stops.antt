@@ -1,5 +1,5 @@
 -- What stops a run, and what a stop leaves.
-use Rattle.std.specs.Prelude.{◌≡◌, ◌⊎◌, ⊥, ℕ, ◌≤◌, Bool, IsTrue, List, [], ◌∷◌, ◌++◌, Result, Ok, Err}
+use Rattle.std.specs.Prelude.{◌≡◌, ◌⊎◌, ℕ, ◌≤◌, Bool, IsTrue, List, [], ◌∷◌, ◌++◌, Result, Ok, Err}
 use Rattle.journal.specs.declared.fault.OpenFault.{OpenFault}
 use Rattle.outside.specs.Causes.{Rose}
 use Rattle.replica.specs.Calls.{IsRefusedJournal}

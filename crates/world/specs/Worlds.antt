@@ -1,5 +1,5 @@
 -- What a world is: replicas by name, and the messages that were made.
-use Rattle.std.specs.Prelude.{◌≡◌, ⊥, ℕ, ◌+◌, ◌-◌, ◌==◌, if◌then◌else◌, List, [], ◌∷◌, ◌++◌, find, length, map, slice_get, Option, Some, None, option_and_then, option_map}
+use Rattle.std.specs.Prelude.{◌≡◌, ℕ, ◌+◌, ◌-◌, ◌==◌, if◌then◌else◌, List, [], ◌∷◌, ◌++◌, find, length, map, slice_get, Option, Some, None, option_and_then, option_map}
 use Rattle.std.specs.Str.{bytes_eq}
 use Rattle.replica.specs.Kept.{Kept}
 use Rattle.script.specs.Scripts.{Declared}

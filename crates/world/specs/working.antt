@@ -3,6 +3,9 @@ pub mod Places
 pub mod Stopping
 pub mod Words
 pub mod Kinds
+pub mod Handling
 pub mod Running
+pub mod Fitting
 pub mod Rounds
+pub mod Passing
 pub mod Opening

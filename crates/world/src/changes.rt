@@ -1,13 +1,17 @@
 //! The lines that are one event of a replica which changes it.
 
-ghost use Rattle.std.specs.Prelude.{◌≡◌, ◌≤◌, IfErr, codes, false, true};
+ghost use Rattle.std.specs.Prelude.{◌≡◌, ◌≤◌, ◌∷◌, [], ℕ, Bool, List, Some, codes, false, true};
 ghost use Rattle.std.specs.Option.{option_copied};
+ghost use Rattle.outside.specs.Causes.{Rose};
 ghost use Rattle.replica.specs.Calls.{ActsIn, Begins};
+ghost use Rattle.replica.specs.Disks.{IsTrusted};
+ghost use Rattle.script_texts.specs.Replies.{no_message_text};
 ghost use Rattle.world.specs.Lines.{RunsAction, RunsJoin, RunsRestart, RunsTake, action_of, graph_to_join};
-ghost use Rattle.world.specs.Stops.{HasCause};
-ghost use Rattle.world.specs.declared.stop.RunStop.TheVariants as stop;
+ghost use Rattle.world.specs.Worlds.{AreUp, Of};
+ghost use Rattle.world.specs.working.Handling.{Handles, RefusesAt};
 ghost use Rattle.world.specs.working.Places.{is_named};
-ghost use Rattle.world.specs.working.Running.{Changing, NoneOf};
+ghost use Rattle.world.specs.working.Running.{Changing, FrontOf, NoneOf, Showing};
+ghost use Rattle.world.specs.working.Stopping.{NoJournal};
 
 use crate::events::{act, graph_of, init, join, restart, take};
 use crate::named::Named;
@@ -24,7 +28,6 @@ use std::alloc::Global;
 use std::sync::ledger::Ledger;
 
 /// `init A f(args)`
-#[tactic(auto, using(crate::proofs::CauseFacts::init_caused))]
 pub fn init_line<R: Runner, G: Graph, F: FactBase, D: Disk, E: Envelope, L: Ledger>(
     alloc: Global,
     replicas: &mut Vec<Named<R, G, F, D>>,
@@ -35,16 +38,16 @@ pub fn init_line<R: Runner, G: Graph, F: FactBase, D: Disk, E: Envelope, L: Ledg
     steps: &mut Steps<L>,
 ) -> Result<Bytes, RunStop>
     requires there { is_named replicas.old.items name.now ≡ true }
+    requires up { AreUp replicas.old.items }
     ensures line { Changing (RunsAction (codes "init") name.now (λ kept. Begins kept E.good E.tag_of (action_of action.now args.now true))) NoneOf replicas.old.items result replicas.new.items }
     ensures later { E.faults env.old ≤ E.faults env.new }
-    ensures cause { IfErr result (HasCause (E.faults env.old) (E.faults env.new)) }
+    ensures disks { Handles (record { tells = D.tells; content = D.content; honest = D.honest }) E.good D.faults (Rose (E.faults env.old) (E.faults env.new)) NoJournal (FrontOf (RunsAction (codes "init") name.now (λ kept. Begins kept E.good E.tag_of (action_of action.now args.now true))) NoneOf replicas.old.items) replicas.old.items result replicas.new.items }
 {
     let reply = init(alloc, replicas, name, action, args, env, steps);
     published_line(alloc, "init", name, reply)
 }
 
 /// `act A f(args)`
-#[tactic(auto, using(crate::proofs::CauseFacts::act_caused))]
 pub fn act_line<R: Runner, G: Graph, F: FactBase, D: Disk, E: Envelope, L: Ledger>(
     alloc: Global,
     replicas: &mut Vec<Named<R, G, F, D>>,
@@ -55,9 +58,10 @@ pub fn act_line<R: Runner, G: Graph, F: FactBase, D: Disk, E: Envelope, L: Ledge
     steps: &mut Steps<L>,
 ) -> Result<Bytes, RunStop>
     requires there { is_named replicas.old.items name.now ≡ true }
+    requires up { AreUp replicas.old.items }
     ensures line { Changing (RunsAction (codes "act") name.now (λ kept. ActsIn kept E.good E.tag_of (action_of action.now args.now false))) NoneOf replicas.old.items result replicas.new.items }
     ensures later { E.faults env.old ≤ E.faults env.new }
-    ensures cause { IfErr result (HasCause (E.faults env.old) (E.faults env.new)) }
+    ensures disks { Handles (record { tells = D.tells; content = D.content; honest = D.honest }) E.good D.faults (Rose (E.faults env.old) (E.faults env.new)) NoJournal (FrontOf (RunsAction (codes "act") name.now (λ kept. ActsIn kept E.good E.tag_of (action_of action.now args.now false))) NoneOf replicas.old.items) replicas.old.items result replicas.new.items }
 {
     let reply = act(alloc, replicas, name, action, args, env, steps);
     published_line(alloc, "act", name, reply)
@@ -75,7 +79,6 @@ fn graph_to_join(own: Option<Id>, known: Option<Id>) -> Result<Id, Refusal>
 }
 
 /// `join A B`: A is to have no graph yet, and B is to have one.
-#[tactic(auto, using(crate::proofs::CauseFacts::joins_mild, crate::proofs::CauseFacts::memory_alone, crate::proofs::CauseFacts::refused_join_alone))]
 pub fn join_line<R: Runner, G: Graph, F: FactBase, D: Disk>(
     alloc: Global,
     replicas: &mut Vec<Named<R, G, F, D>>,
@@ -83,9 +86,10 @@ pub fn join_line<R: Runner, G: Graph, F: FactBase, D: Disk>(
     other: &Text,
 ) -> Result<Bytes, RunStop>
     requires there { is_named replicas.old.items name.now ≡ true }
+    requires up { AreUp replicas.old.items }
     requires other { is_named replicas.old.items other.now ≡ true }
     ensures line { Changing (RunsJoin name.now other.now) NoneOf replicas.old.items result replicas.new.items }
-    ensures stop { IfErr result (λ why. why ≡ stop.NoMemory) }
+    ensures disks { (good : List ℕ → List ℕ → List ℕ → Bool) → Handles (record { tells = D.tells; content = D.content; honest = D.honest }) good D.faults ⊥ NoJournal (FrontOf (RunsJoin name.now other.now) NoneOf replicas.old.items) replicas.old.items result replicas.new.items }
 {
     let own = graph_of(replicas.as_slice(), name);
     let known = graph_of(replicas.as_slice(), other);
@@ -98,8 +102,32 @@ pub fn join_line<R: Runner, G: Graph, F: FactBase, D: Disk>(
     }
 }
 
+/// `take A n`, where no message was made.
+fn nothing_taken(alloc: Global, name: &Text) -> Result<Bytes, RunStop>
+    ensures { Showing (λ text. text ≡ no_message_text (codes "take") (name.now ∷ [])) result }
+{
+    Ok(no_message_text(alloc, "take", &[name.as_str()])?)
+}
+
+/// `take A n`, where this message was made.
+fn take_message<R: Runner, G: Graph, F: FactBase, D: Disk, E: Envelope, L: Ledger>(
+    alloc: Global,
+    replicas: &mut Vec<Named<R, G, F, D>>,
+    name: &Text,
+    message: &[u8],
+    env: &E,
+    steps: &mut Steps<L>,
+) -> Result<Bytes, RunStop>
+    requires there { is_named replicas.old.items name.now ≡ true }
+    requires up { AreUp replicas.old.items }
+    ensures line { Changing (RunsTake (record { good = E.good; told = E.tag_of }) name.now (Some message.now)) NoneOf replicas.old.items result replicas.new.items }
+    ensures disks { Handles (record { tells = D.tells; content = D.content; honest = D.honest }) E.good D.faults ⊥ NoJournal (FrontOf (RunsTake (record { good = E.good; told = E.tag_of }) name.now (Some message.now)) NoneOf replicas.old.items) replicas.old.items result replicas.new.items }
+{
+    let reply = take(alloc, replicas, name, message, env, steps);
+    taken_line(alloc, name, reply)
+}
+
 /// `take A n`, where this message was made, or none.
-#[tactic(auto, using(crate::proofs::CauseFacts::takes_mild, crate::proofs::CauseFacts::memory_alone))]
 pub fn take_line<R: Runner, G: Graph, F: FactBase, D: Disk, E: Envelope, L: Ledger>(
     alloc: Global,
     replicas: &mut Vec<Named<R, G, F, D>>,
@@ -109,14 +137,14 @@ pub fn take_line<R: Runner, G: Graph, F: FactBase, D: Disk, E: Envelope, L: Ledg
     steps: &mut Steps<L>,
 ) -> Result<Bytes, RunStop>
     requires there { is_named replicas.old.items name.now ≡ true }
+    requires up { AreUp replicas.old.items }
     ensures line { Changing (RunsTake (record { good = E.good; told = E.tag_of }) name.now (option_copied message.entry)) NoneOf replicas.old.items result replicas.new.items }
-    ensures stop { IfErr result (λ why. why ≡ stop.NoMemory) }
+    ensures disks { Handles (record { tells = D.tells; content = D.content; honest = D.honest }) E.good D.faults ⊥ NoJournal (FrontOf (RunsTake (record { good = E.good; told = E.tag_of }) name.now (option_copied message.entry)) NoneOf replicas.old.items) replicas.old.items result replicas.new.items }
 {
-    let Some(message) = message else {
-        return Ok(no_message_text(alloc, "take", &[name.as_str()])?);
-    };
-    let reply = take(alloc, replicas, name, message.as_slice(), env, steps);
-    taken_line(alloc, name, reply)
+    match message {
+        Some(message) => take_message(alloc, replicas, name, message.as_slice(), env, steps),
+        None => nothing_taken(alloc, name),
+    }
 }
 
 /// `restart A`: its disk is opened again. A journal that is refused stops the run.
@@ -127,11 +155,10 @@ pub fn restart_line<R: Runner, G: Graph, F: FactBase, D: Disk, E: Envelope>(
     env: &E,
 ) -> Result<Bytes, RunStop>
     requires there { is_named replicas.old.items name.now ≡ true }
-    ensures line { Changing (RunsRestart name.now) NoneOf replicas.old.items result replicas.new.items }
-    ensures stop { IfErr result (λ why. why ≡ stop.NoMemory) }
+    requires up { AreUp replicas.old.items }
+    ensures line { Of replicas.old.items name.now (IsTrusted E.good (record { tells = D.tells; content = D.content; honest = D.honest })) → Changing (RunsRestart name.now) NoneOf replicas.old.items result replicas.new.items }
+    ensures disks { Handles (record { tells = D.tells; content = D.content; honest = D.honest }) E.good D.faults ⊥ (RefusesAt (record { tells = D.tells; content = D.content; honest = D.honest }) E.good replicas.old.items name.now) (FrontOf (RunsRestart name.now) NoneOf replicas.old.items) replicas.old.items result replicas.new.items }
 {
-    match restart(alloc, replicas, name, env) {
-        Err(Refusal::Journal(cause)) => Err(RunStop::Journal(name.copy(alloc)?, cause)),
-        reply => restarted_line(alloc, name, reply),
-    }
+    let reply = restart(alloc, replicas, name, env);
+    restarted_line(alloc, name, reply)
 }

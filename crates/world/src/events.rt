@@ -1,12 +1,13 @@
 //! One call of the replica of a name. Every other replica stays as it is.
 
-ghost use Rattle.std.specs.Prelude.{◌≡◌, ◌≤◌, IfErr, Ok, false, length, true};
+ghost use Rattle.std.specs.Prelude.{◌≡◌, ◌≤◌, ℕ, Bool, IfErr, List, false, true};
 ghost use Rattle.outside.specs.Causes.{Rose};
 ghost use Rattle.replica.specs.Calls.{ActsIn, Answers, Asks, AsksNext, Begins, Joins, TakesIn};
 ghost use Rattle.replica.specs.declared.refusal.Refusal.TheVariants as refusal;
 ghost use Rattle.transaction.specs.declared.fault.ActFault.TheVariants as act_fault;
 ghost use Rattle.world.specs.Lines.{action_of};
 ghost use Rattle.world.specs.Worlds.{Changes, Of};
+ghost use Rattle.world.specs.working.Handling.{RestartsOn, Treats};
 ghost use Rattle.world.specs.working.Places.{is_named};
 
 use crate::named::{Named, place_of, replica_of};
@@ -30,7 +31,7 @@ pub fn init<R: Runner, G: Graph, F: FactBase, D: Disk, E: Envelope, L: Ledger>(
     steps: &mut Steps<L>,
 ) -> Result<Published, Refusal>
     requires there { is_named replicas.old.items name.now ≡ true }
-    ensures step { Changes replicas.old.items name.now (λ kept. Begins kept E.good E.tag_of (action_of action.now args.now true) steps.old steps.new result) replicas.new.items }
+    ensures step { Changes replicas.old.items name.now (λ before after. Begins before E.good E.tag_of (action_of action.now args.now true) steps.old steps.new result after × Treats (record { tells = D.tells; content = D.content; honest = D.honest }) E.good D.faults before after result) replicas.new.items }
     ensures later { E.faults env.old ≤ E.faults env.new }
     ensures cause { IfErr result (λ why. why ≡ refusal.Act act_fault.SealFault → Rose (E.faults env.old) (E.faults env.new)) }
 {
@@ -51,7 +52,7 @@ pub fn act<R: Runner, G: Graph, F: FactBase, D: Disk, E: Envelope, L: Ledger>(
     steps: &mut Steps<L>,
 ) -> Result<Published, Refusal>
     requires there { is_named replicas.old.items name.now ≡ true }
-    ensures step { Changes replicas.old.items name.now (λ kept. ActsIn kept E.good E.tag_of (action_of action.now args.now false) steps.old steps.new result) replicas.new.items }
+    ensures step { Changes replicas.old.items name.now (λ before after. ActsIn before E.good E.tag_of (action_of action.now args.now false) steps.old steps.new result after × Treats (record { tells = D.tells; content = D.content; honest = D.honest }) E.good D.faults before after result) replicas.new.items }
     ensures later { E.faults env.old ≤ E.faults env.new }
     ensures cause { IfErr result (λ why. why ≡ refusal.Act act_fault.SealFault → Rose (E.faults env.old) (E.faults env.new)) }
 {
@@ -69,7 +70,7 @@ pub fn take<R: Runner, G: Graph, F: FactBase, D: Disk, E: Envelope, L: Ledger>(
     steps: &mut Steps<L>,
 ) -> Result<Taken, Refusal>
     requires there { is_named replicas.old.items name.now ≡ true }
-    ensures step { Changes replicas.old.items name.now (λ kept. TakesIn kept E.good response.now result) replicas.new.items }
+    ensures step { Changes replicas.old.items name.now (λ before after. TakesIn before E.good response.now result after × Treats (record { tells = D.tells; content = D.content; honest = D.honest }) E.good D.faults before after result) replicas.new.items }
 {
     let place = place_of(replicas.as_slice(), name);
     replicas[place].replica.take(alloc, response, env, steps)
@@ -121,7 +122,7 @@ pub fn join<R: Runner, G: Graph, F: FactBase, D: Disk>(
     graph: &Id,
 ) -> Result<(), Refusal>
     requires there { is_named replicas.old.items name.now ≡ true }
-    ensures step { Changes replicas.old.items name.now (λ kept. Joins kept graph.now result) replicas.new.items }
+    ensures step { (good : List ℕ → List ℕ → List ℕ → Bool) → Changes replicas.old.items name.now (λ before after. Joins before graph.now result after × Treats (record { tells = D.tells; content = D.content; honest = D.honest }) good D.faults before after result) replicas.new.items }
 {
     let place = place_of(replicas.as_slice(), name);
     replicas[place].replica.join(alloc, graph)
@@ -138,7 +139,7 @@ pub fn graph_of<R: Runner, G: Graph, F: FactBase, D: Disk>(
     replica_of(replicas, name).state().graph_id()
 }
 
-/// A restart, which changes nothing.
+/// A restart: the disk is opened again.
 pub fn restart<R: Runner, G: Graph, F: FactBase, D: Disk, E: Envelope>(
     alloc: Global,
     replicas: &mut Vec<Named<R, G, F, D>>,
@@ -146,8 +147,7 @@ pub fn restart<R: Runner, G: Graph, F: FactBase, D: Disk, E: Envelope>(
     env: &E,
 ) -> Result<usize, Refusal>
     requires there { is_named replicas.old.items name.now ≡ true }
-    ensures held { Of replicas.old.items name.now (λ kept. result ≡ Ok (length kept.held.commands)) }
-    ensures same { replicas.new.items ≡ replicas.old.items }
+    ensures step { Changes replicas.old.items name.now (λ before after. RestartsOn (record { tells = D.tells; content = D.content; honest = D.honest }) E.good D.faults before after result) replicas.new.items }
 {
     let place = place_of(replicas.as_slice(), name);
     replicas[place].replica.restart(alloc, env)

@@ -4,7 +4,7 @@ ghost use Rattle.std.specs.Prelude.{◌≡◌, ◌∷◌, [], None, true};
 ghost use Rattle.std.specs.Option.{option_copied};
 ghost use Rattle.script_texts.specs.Replies.{no_message_text};
 ghost use Rattle.world.specs.Lines.{SaysAnswer, SaysAsk, SaysInject, SaysNext};
-ghost use Rattle.world.specs.Worlds.{message_at};
+ghost use Rattle.world.specs.Worlds.{AreUp, message_at};
 ghost use Rattle.world.specs.working.Places.{is_named};
 ghost use Rattle.world.specs.working.Running.{Making};
 
@@ -54,6 +54,7 @@ pub fn ask_line<R: Runner, G: Graph, F: FactBase, D: Disk>(
     number: u32,
 ) -> Result<Said, RunStop>
     requires there { is_named replicas.now name.now ≡ true }
+    requires up { AreUp replicas.now }
     ensures line { Making (SaysAsk replicas.now name.now number) result }
 {
     let reply = ask(alloc, replicas, name);
@@ -69,6 +70,7 @@ pub fn next_request_line<R: Runner, G: Graph, F: FactBase, D: Disk>(
     number: u32,
 ) -> Result<Said, RunStop>
     requires there { is_named replicas.now name.now ≡ true }
+    requires up { AreUp replicas.now }
     ensures line { Making (SaysNext replicas.now name.now (option_copied message.entry) number) result }
 {
     let Some(message) = message else {
@@ -88,6 +90,7 @@ pub fn response_line<R: Runner, G: Graph, F: FactBase, D: Disk>(
     number: u32,
 ) -> Result<Said, RunStop>
     requires there { is_named replicas.now name.now ≡ true }
+    requires up { AreUp replicas.now }
     ensures line { Making (SaysAnswer replicas.now name.now (option_copied message.entry) number) result }
 {
     let Some(message) = message else {

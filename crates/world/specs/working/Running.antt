@@ -7,7 +7,7 @@ use Rattle.script_texts.specs.Bytes.{Bytes}
 use Rattle.script_texts.specs.Replies.{replica_text}
 use Rattle.state_texts.specs.States.{graph_text}
 use Rattle.world.specs.Lines.{RunsAction, RunsJoin, RunsRestart, RunsSync, RunsTake, SaysAnswer, SaysAsk, SaysInject, SaysNext, ShowsEffects, ShowsFacts, Tags, action_of}
-use Rattle.world.specs.Worlds.{Named, Of, Site, message_at, next_number}
+use Rattle.world.specs.Worlds.{AreAlike, Named, Of, Site, message_at, next_number}
 use Rattle.world.specs.declared.said.Said.{Said}
 use Rattle.world.specs.declared.stop.RunStop.{RunStop}
 use Rattle.world.specs.declared.stop.RunStop.TheVariants as stop
@@ -23,10 +23,20 @@ Making says (Ok said) = says said.text said.message
 Making says (Err why) = why ≡ stop.NoMemory
 
 module _ {D : Type 0} where
-  -- A line that changes replicas runs, or stops before its events, or behind them, or behind some of them.
+  -- The replicas are those of a front of a line's events: none of them, or all, or some.
+  abbrev pub FrontOf : (List (Named D) → Bytes → List (Named D) → Type 0) → (List (Named D) → List (Named D) → Type 0) → List (Named D) → List (Named D) → Type 0
+  FrontOf runs some old replicas = (replicas ≡ old) ⊎ ((text : Bytes) × runs old text replicas) ⊎ some old replicas
+
+  -- What a front led to is left, whatever became of the disks.
+  pub record LeavesAlike (front : List (Named D) → Type 0) (new : List (Named D)) : Type 0 where
+    pub replicas : List (Named D)
+    pub is_front : front replicas
+    pub alike : AreAlike replicas new
+
+  -- A line that changes replicas runs, or stops and leaves a front of its events.
   abbrev pub Changing : (List (Named D) → Bytes → List (Named D) → Type 0) → (List (Named D) → List (Named D) → Type 0) → List (Named D) → Result Bytes RunStop → List (Named D) → Type 0
   Changing runs some old (Ok text) new = runs old text new
-  Changing runs some old (Err why) new = (new ≡ old) ⊎ ((text : Bytes) × runs old text new) ⊎ some old new
+  Changing runs some old (Err why) new = LeavesAlike (FrontOf runs some old) new
 
   -- A line of one event has no front but none and all.
   abbrev pub NoneOf : List (Named D) → List (Named D) → Type 0

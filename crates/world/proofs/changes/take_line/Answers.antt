@@ -1,13 +1,28 @@
-use Rattle.std.proofs.Common.{rules, ◌≡◌, Some, sym, subst}
+use Rattle.std.proofs.Common.{rules, ◌≡◌, None, Some, sym, subst}
 use Rattle.std.specs.Option.{option_copied}
 use Rattle.world.specs.Lines.{RunsTake}
-use Rattle.world.specs.working.Running.{Changing, NoneOf}
-use Rattle.world.proofs.ChangeFacts.{take_changes}
+use Rattle.world.specs.working.Handling.{Handles}
+use Rattle.world.specs.working.Running.{Changing, FrontOf, NoneOf}
+use Rattle.world.specs.working.Stopping.{NoJournal}
+use Rattle.world.proofs.ChangeFacts.{untaken_changes, untaken_handles}
 use Rattle.world.proofs.changes.take_line.Goals as goal
 
-pub returns-clause-line : goal.returns-clause-line
-returns-clause-line g c =
+pub returns-in-Some-clause-line : goal.returns-in-Some-clause-line
+returns-in-Some-clause-line g c =
     let same : option_copied c.args.message ≡ Some c.as_slice.result.now = search rules in
-    subst (λ message. Changing (RunsTake (record { good = g.E.Envelope.good; told = g.E.Envelope.tag_of }) c.args.name.now message) NoneOf c.args.replicas.now.items c.taken_line.result c.take-reply.new.replicas.items) (sym same)
-    (take_changes (record { good = g.E.Envelope.good; told = g.E.Envelope.tag_of }) c.as_slice.result.now c.args.name.now c.take-reply.result c.args.replicas.now.items c.taken_line.result c.take-reply.new.replicas.items
-    c.take-reply.ensures.step c.taken_line.ensures)
+    subst (λ m. Changing (RunsTake (record { good = g.E.Envelope.good; told = g.E.Envelope.tag_of }) c.args.name.now m) NoneOf c.args.replicas.now.items c.take_message.result c.take_message.new.replicas.items) (sym same) c.take_message.ensures.line
+
+pub returns-in-Some-clause-disks : goal.returns-in-Some-clause-disks
+returns-in-Some-clause-disks g c =
+    let same : option_copied c.args.message ≡ Some c.as_slice.result.now = search rules in
+    subst (λ m. Handles (record { tells = g.D.Disk.tells; content = g.D.Disk.content; honest = g.D.Disk.honest }) g.E.Envelope.good g.D.Disk.faults ⊥ NoJournal (FrontOf (RunsTake (record { good = g.E.Envelope.good; told = g.E.Envelope.tag_of }) c.args.name.now m) NoneOf c.args.replicas.now.items) c.args.replicas.now.items c.take_message.result c.take_message.new.replicas.items)
+    (sym same) c.take_message.ensures.disks
+
+pub returns-in-None-clause-line : goal.returns-in-None-clause-line
+returns-in-None-clause-line g c =
+    let same : option_copied c.args.message ≡ None = search rules in
+    untaken_changes (record { tells = g.D.Disk.tells; content = g.D.Disk.content; honest = g.D.Disk.honest }) g.E.Envelope.good g.D.Disk.faults (record { good = g.E.Envelope.good; told = g.E.Envelope.tag_of }) c.args.name.now c.args.replicas.now.items c.nothing_taken.result (option_copied c.args.message) same c.nothing_taken.ensures
+
+pub returns-in-None-clause-disks : goal.returns-in-None-clause-disks
+returns-in-None-clause-disks g c =
+    untaken_handles (record { tells = g.D.Disk.tells; content = g.D.Disk.content; honest = g.D.Disk.honest }) g.E.Envelope.good g.D.Disk.faults (record { good = g.E.Envelope.good; told = g.E.Envelope.tag_of }) c.args.name.now c.args.replicas.now.items c.nothing_taken.result (option_copied c.args.message) ⊥ c.requires.up c.nothing_taken.ensures

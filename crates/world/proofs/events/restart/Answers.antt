@@ -1,15 +1,17 @@
-use Rattle.std.proofs.Common.{◌≡◌, ap, set, ◌∙◌}
+use Rattle.std.proofs.Common.{◌≡◌, ap, ◌∙◌}
 use Rattle.world.specs.working.Places.{place_in}
-use Rattle.world.proofs.PlaceFacts.{kept_there, set_there, unchanged}
+use Rattle.world.proofs.PlaceFacts.{kept_there, set_there}
 use Rattle.world.proofs.events.restart.Goals as goal
 
 pub returns : goal.returns
 returns g c =
     let at : c.place_of-place.result ≡ place_in c.args.replicas.now.items c.args.name.now = c.place_of-place.ensures.place ∙ ap (λ rs. place_in rs c.args.name.now) c.as_slice.ensures.value in
     record {
-      held = (c.behind-replicas.inside.replica, kept_there c.args.replicas.now.items c.args.name.now c.place_of-place.result c.behind-replicas.inside.name c.behind-replicas.inside.replica c.index_mut.result.now c.requires.there at c.behind-replicas.view_is c.index_mut.ensures.value, c.restart.ensures.held);
-      same =
-          ap (λ k. set c.args.replicas.now.items c.place_of-place.result (record { name = c.behind-replicas.inside.name; kept = k })) c.restart.ensures.same
-          ∙ set_there c.args.replicas.now.items c.args.name.now c.place_of-place.result c.behind-replicas.inside.name c.behind-replicas.inside.replica c.index_mut.result.now c.behind-replicas.inside.replica c.requires.there at c.behind-replicas.view_is c.index_mut.ensures.value
-          ∙ unchanged c.args.replicas.now.items c.args.name.now c.behind-replicas.inside.replica (kept_there c.args.replicas.now.items c.args.name.now c.place_of-place.result c.behind-replicas.inside.name c.behind-replicas.inside.replica c.index_mut.result.now c.requires.there at c.behind-replicas.view_is c.index_mut.ensures.value);
+      step = (
+        c.behind-replicas.inside.replica,
+        c.restart.new.self,
+        kept_there c.args.replicas.now.items c.args.name.now c.place_of-place.result c.behind-replicas.inside.name c.behind-replicas.inside.replica c.index_mut.result.now c.requires.there at c.behind-replicas.view_is c.index_mut.ensures.value,
+        record { restarts = c.restart.ensures.step; opens = c.restart.ensures.opens; stays = c.restart.ensures.stays; treats = record { later = c.restart.ensures.disk.later; cause = λ fell. (c.restart.ensures.disk.cause fell.0 fell.1).0; crash = c.restart.ensures.crash } },
+        set_there c.args.replicas.now.items c.args.name.now c.place_of-place.result c.behind-replicas.inside.name c.behind-replicas.inside.replica c.index_mut.result.now c.restart.new.self c.requires.there at c.behind-replicas.view_is c.index_mut.ensures.value,
+      );
     }

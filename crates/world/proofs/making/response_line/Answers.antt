@@ -10,5 +10,5 @@ returns g c =
     let same : option_copied c.args.message ≡ Some c.as_slice.result.now = search rules in
     record {
       line = subst (λ message. Making (SaysAnswer c.args.replicas.now c.args.name.now message c.args.number) c.answer_line.result) (sym same)
-          (answer_says c.args.replicas.now c.args.name.now c.as_slice.result.now c.args.number c.answer-reply.result c.answer_line.result c.answer-reply.ensures.reply c.answer_line.ensures);
+          (answer_says c.args.replicas.now c.args.name.now c.args.number c.requires.up c.as_slice.result.now c.answer-reply.result c.answer_line.result c.answer-reply.ensures.reply c.answer_line.ensures);
     }

@@ -1,14 +1,24 @@
-use Rattle.std.proofs.Common.{◌≤◌, ◌+◌, length, vec_capacity, sym, subst}
-use Rattle.world.proofs.ArmFacts.{as_many, site_runs}
+use Rattle.std.proofs.Common.{◌≡◌, ◌≤◌, ◌+◌, length, true, vec_capacity, sym, subst}
+use Rattle.outside.specs.Causes.{Rose}
+use Rattle.world.specs.Lines.{may_follow, may_run}
+use Rattle.world.specs.Stops.{Acts, RefusesJournal, SomeOf}
+use Rattle.world.specs.Worlds.{AreUp, Site, declared, site_of}
+use Rattle.world.specs.working.Fitting.{Fits}
+use Rattle.world.specs.working.Passing.{RunsOn}
+use Rattle.world.specs.working.Running.{FrontOf, RunsIn}
+use Rattle.world.proofs.ArmFacts.{as_many}
+use Rattle.world.proofs.LineFacts.{changed_by}
 use Rattle.world.proofs.world.World.run_changing.Goals as goal
 
 pub invariant_of-self : goal.invariant_of-self
 invariant_of-self g c =
     subst (λ n. n + length c.self.inside.spare.items ≤ vec_capacity c.self.inside.spare)
-    (sym (as_many (record { good = g.E.Envelope.good; told = g.E.Envelope.tag_of }) c.args.line.now c.self.inside.replicas.items c.changing_line.new.replicas.items c.changing_line.result c.as_slice.result.now c.changing_line.ensures.line))
+    (sym (as_many (record { good = g.E.Envelope.good; told = g.E.Envelope.tag_of }) c.as_slice.result.now (record { tells = g.D.Disk.tells; content = g.D.Disk.content; honest = g.D.Disk.honest }) g.D.Disk.faults (g.E.Envelope.faults c.args.env.now) (g.E.Envelope.faults c.changing_line.new.env) c.self.inside.replicas.items c.changing_line.result c.changing_line.new.replicas.items
+    (Acts c.args.line.now × Rose (g.E.Envelope.faults c.args.env.now) (g.E.Envelope.faults c.changing_line.new.env)) (RefusesJournal (record { tells = g.D.Disk.tells; content = g.D.Disk.content; honest = g.D.Disk.honest }) g.E.Envelope.good c.self.inside.replicas.items c.args.line.now)
+    (FrontOf (RunsIn (record { good = g.E.Envelope.good; told = g.E.Envelope.tag_of }) c.as_slice.result.now c.args.line.now) (SomeOf (record { good = g.E.Envelope.good; told = g.E.Envelope.tag_of }) c.args.line.now) c.self.inside.replicas.items) c.changing_line.ensures.fits.disks))
     c.self.invariant
 
-pub returns-clause-line : goal.returns-clause-line
-returns-clause-line g c =
-    site_runs (record { good = g.E.Envelope.good; told = g.E.Envelope.tag_of }) c.args.line.now c.self.inside.replicas.items c.changing_line.new.replicas.items c.changing_line.result
-    c.args.self.now c.self.inside.messages.items c.as_slice.result.now c.self.inside.spare.items (sym c.self.view_is) c.as_slice.ensures.value c.changing_line.ensures.line
+pub returns-clause-runs : goal.returns-clause-runs
+returns-clause-runs g c =
+    changed_by (record { good = g.E.Envelope.good; told = g.E.Envelope.tag_of }) (record { tells = g.D.Disk.tells; content = g.D.Disk.content; honest = g.D.Disk.honest }) g.D.Disk.faults (g.E.Envelope.faults c.args.env.now) (g.E.Envelope.faults c.changing_line.new.env) c.args.line.now c.self.inside.replicas.items c.changing_line.new.replicas.items c.self.inside.messages.items c.as_slice.result.now c.self.inside.spare.items
+    c.changing_line.result c.args.self.now (sym c.self.view_is) c.as_slice.ensures.value c.requires.changing c.changing_line.ensures.fits

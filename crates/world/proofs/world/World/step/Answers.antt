@@ -1,10 +1,34 @@
-use Rattle.world.proofs.LineFacts.{step_keeps_disks, step_keeps_names}
+use Rattle.world.specs.Stops.{IsFront}
+use Rattle.world.proofs.LineFacts.{step_cause, step_disks, step_journals, step_seals}
+use Rattle.world.proofs.PlaceFacts.{names_stay}
 use Rattle.world.proofs.world.World.step.Goals as goal
 
+pub returns-clause-line : goal.returns-clause-line
+returns-clause-line g c = c.run_into.ensures.steps.goes
+
+pub returns-clause-crash : goal.returns-clause-crash
+returns-clause-crash g c = c.run_into.ensures.steps.passes.disks.crash
+
+pub returns-clause-up : goal.returns-clause-up
+returns-clause-up g c = c.run_into.ensures.steps.passes.disks.up
+
 pub returns-clause-disks : goal.returns-clause-disks
-returns-clause-disks g c =
-    step_keeps_disks (record { good = g.E.Envelope.good; told = g.E.Envelope.tag_of }) c.args.self.now c.args.line.now c.args.into.now c.run_into.result c.run_into.new.into c.run_into.new.self c.run_into.ensures.line
+returns-clause-disks g c = step_disks (record { tells = g.D.Disk.tells; content = g.D.Disk.content; honest = g.D.Disk.honest }) g.E.Envelope.good g.D.Disk.faults (g.E.Envelope.faults c.args.env.now) (g.E.Envelope.faults c.run_into.new.env) c.args.self.now c.run_into.new.self c.args.line.now c.run_into.ensures.steps.passes.spare (IsFront (record { good = g.E.Envelope.good; told = g.E.Envelope.tag_of }) c.args.self.now c.args.line.now) c.run_into.result c.run_into.ensures.steps.passes.disks
+
+pub returns-clause-cause : goal.returns-clause-cause
+returns-clause-cause g c = step_cause (record { tells = g.D.Disk.tells; content = g.D.Disk.content; honest = g.D.Disk.honest }) g.E.Envelope.good g.D.Disk.faults (g.E.Envelope.faults c.args.env.now) (g.E.Envelope.faults c.run_into.new.env) c.args.self.now c.run_into.new.self c.args.line.now c.run_into.ensures.steps.passes.spare (IsFront (record { good = g.E.Envelope.good; told = g.E.Envelope.tag_of }) c.args.self.now c.args.line.now) c.run_into.result c.run_into.ensures.steps.passes.disks
+
+pub returns-clause-seals : goal.returns-clause-seals
+returns-clause-seals g c = step_seals (record { tells = g.D.Disk.tells; content = g.D.Disk.content; honest = g.D.Disk.honest }) g.E.Envelope.good g.D.Disk.faults (g.E.Envelope.faults c.args.env.now) (g.E.Envelope.faults c.run_into.new.env) c.args.self.now c.run_into.new.self c.args.line.now c.run_into.ensures.steps.passes.spare (IsFront (record { good = g.E.Envelope.good; told = g.E.Envelope.tag_of }) c.args.self.now c.args.line.now) c.run_into.result c.run_into.ensures.steps.passes.disks
+
+pub returns-clause-journals : goal.returns-clause-journals
+returns-clause-journals g c = step_journals (record { tells = g.D.Disk.tells; content = g.D.Disk.content; honest = g.D.Disk.honest }) g.E.Envelope.good g.D.Disk.faults (g.E.Envelope.faults c.args.env.now) (g.E.Envelope.faults c.run_into.new.env) c.args.self.now c.run_into.new.self c.args.line.now c.run_into.ensures.steps.passes.spare (IsFront (record { good = g.E.Envelope.good; told = g.E.Envelope.tag_of }) c.args.self.now c.args.line.now) c.run_into.result c.run_into.ensures.steps.passes.disks
 
 pub returns-clause-names : goal.returns-clause-names
-returns-clause-names g c =
-    step_keeps_names (record { good = g.E.Envelope.good; told = g.E.Envelope.tag_of }) c.args.self.now c.args.line.now c.args.into.now c.run_into.result c.run_into.new.into c.run_into.new.self c.run_into.ensures.line
+returns-clause-names g c = names_stay g.D.Disk.faults c.args.self.now.replicas c.run_into.new.self.replicas c.run_into.ensures.steps.passes.disks.later
+
+pub returns-clause-messages : goal.returns-clause-messages
+returns-clause-messages g c = c.run_into.ensures.steps.passes.counted
+
+pub returns-clause-spare : goal.returns-clause-spare
+returns-clause-spare g c = c.run_into.ensures.steps.passes.spare

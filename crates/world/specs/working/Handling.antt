@@ -1,0 +1,86 @@
+-- What calls make of a replica's disk, and what lines make of all disks, whatever they answer.
+use Rattle.std.specs.Prelude.{◌≡◌, ◌⊎◌, ◌≤◌, ℕ, Bool, IsTrue, List, map, None, Some, IfErr, OnOk, Result, Ok, Err}
+use Rattle.journal.specs.declared.fault.OpenFault.{OpenFault}
+use Rattle.outside.specs.Causes.{Rose}
+use Rattle.outside.specs.Crashes.{LeavesOnly}
+use Rattle.outside.specs.declared.faults.DiskStep.{DiskStep}
+use Rattle.replica.specs.Calls.{IsRefusedJournal, Restarts, StaysAtRestart, restart_opens}
+use Rattle.replica.specs.Disks.{IsTrusted, Sense, Survives, Withstands}
+use Rattle.replica.specs.Fronts.{AnswersOpening, Front, OpensAs, Opens, front_of}
+use Rattle.replica.specs.Kept.{Kept, criteria_of}
+use Rattle.replica.specs.declared.refusal.Refusal.{Refusal}
+use Rattle.replica.specs.declared.refusal.Refusal.TheVariants as refusal
+use Rattle.script_texts.specs.Bytes.{Bytes}
+use Rattle.world.specs.Crashes.{AreSafe, OpenAtEachMoment}
+use Rattle.world.specs.Stops.{SomeRose}
+use Rattle.world.specs.Worlds.{AreUp, EachPair, Named, Of, kept_of, with_kept}
+use Rattle.world.specs.declared.stop.RunStop.{RunStop}
+use Rattle.world.specs.working.Stopping.{IsCausedBy, IsStopFor}
+
+-- The call's disk failed.
+abbrev pub IsDiskFault : {T : Type 0} → Result T Refusal → Type 0
+IsDiskFault reply = (step : DiskStep) × (reply ≡ Err (refusal.DiskFault step))
+
+-- The names stay, and no count of faults falls.
+abbrev pub AreLater : {D : Type 0} → (D → ℕ) → List (Named D) → List (Named D) → Type 0
+AreLater faults old new = EachPair (λ r s. (s.name ≡ r.name) × (faults r.kept.disk ≤ faults s.kept.disk)) old new
+
+module _ {D : Type 0} (good : List ℕ → List ℕ → List ℕ → Bool) where
+  -- Replicas that were reached differ from the old ones in the replica of this name alone, which holds this front there.
+  pub record Reaches (reached : List (Named D) → Type 0) (old : List (Named D)) (name : Bytes) (before : Kept D) (front : Front) : Type 0 where
+    pub kept : Kept D
+    pub there : reached (with_kept old name kept)
+    pub judged : criteria_of good kept ≡ criteria_of good before
+    pub holds : front_of kept.held ≡ front
+
+module _ {D : Type 0} (sense : Sense D) (good : List ℕ → List ℕ → List ℕ → Bool) where
+  -- ---- one replica
+
+  -- The disk is trusted, and a crash leaves of it what opens to what the replica may open to.
+  abbrev pub IsSafe : Kept D → Type 0
+  IsSafe kept = IsTrusted good sense kept × Survives good sense kept
+
+  -- What the disk of the replica of this name reads is refused, which never is so where it is trusted.
+  abbrev pub RefusesAt : List (Named D) → Bytes → List ℕ → OpenFault → Type 0
+  RefusesAt replicas name told cause =
+      (told ≡ name) × IsRefusedJournal cause × Of replicas name (λ kept. (IsTrue sense.tells → AnswersOpening (criteria_of good kept) (sense.content kept.disk).reads (Err cause)) × (IsTrusted good sense kept → ⊥))
+
+  module _ (faults : D → ℕ) where
+    -- A call: the count of the disk's faults doesn't fall, and rose where the call says that the disk failed. A disk that was trusted withstands it.
+    pub record Treats {T : Type 0} (old new : Kept D) (reply : Result T Refusal) : Type 0 where
+      pub later : faults old.disk ≤ faults new.disk
+      pub cause : IsDiskFault reply → Rose (faults old.disk) (faults new.disk)
+      pub crash : IsTrusted good sense old → Withstands good sense old new
+
+    -- A restart, with what its disk reads.
+    pub record RestartsOn (old new : Kept D) (reply : Result ℕ Refusal) : Type 0 where
+      pub restarts : Restarts old reply new
+      pub opens : IsTrue sense.tells → AnswersOpening (criteria_of good old) (sense.content old.disk).reads (restart_opens reply new)
+      pub stays : IsTrusted good sense old → StaysAtRestart old reply new
+      pub treats : Treats old new reply
+
+    -- From what a replica keeps to what it keeps behind some calls: a disk that was safe is safe, and a crash at any moment between them leaves what opens to a
+    -- front that was reached.
+    pub record Fares (reached : List (Named D) → Type 0) (old : List (Named D)) (name : Bytes) (before after : Kept D) : Type 0 where
+      pub later : faults before.disk ≤ faults after.disk
+      pub crash : IsSafe before → IsSafe after
+          × LeavesOnly (sense.content before.disk) (sense.content after.disk) (λ image. (front : Front) × Reaches good reached old name before front × OpensAs (criteria_of good before) image (Opens front))
+
+    -- Some calls of the replica of a name, the last of which gave this reply.
+    pub record Weathers {T : Type 0} (sealed : Type 0) (reached : List (Named D) → Type 0) (old : List (Named D)) (name : Bytes) (reply : Result T Refusal) (new : List (Named D)) : Type 0 where
+      pub before : Kept D
+      pub after : Kept D
+      pub is : kept_of old name ≡ Some before
+      pub set : new ≡ with_kept old name after
+      pub up : (after.down ≡ None) ⊎ IsDiskFault reply
+      pub cause : IfErr reply (IsCausedBy sealed (Rose (faults before.disk) (faults after.disk)))
+      pub fares : Fares reached old name before after
+
+    -- ---- all replicas
+
+    -- A line, whatever it answers.
+    pub record Handles {T : Type 0} (sealed : Type 0) (refused : List ℕ → OpenFault → Type 0) (reached : List (Named D) → Type 0) (old : List (Named D)) (result : Result T RunStop) (new : List (Named D)) : Type 0 where
+      pub later : AreLater faults old new
+      pub up : OnOk result (AreUp new)
+      pub cause : IfErr result (IsStopFor sealed (SomeRose faults (map (λ r. r.kept.disk) old) (map (λ r. r.kept.disk) new)) refused)
+      pub crash : AreSafe sense good old → AreSafe sense good new × OpenAtEachMoment sense good reached old new
