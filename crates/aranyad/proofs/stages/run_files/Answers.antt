@@ -10,7 +10,7 @@ pub returns-in-Ok-clause-goes : goal.returns-in-Ok-clause-goes
 returns-in-Ok-clause-goes g c = λ told honest.
     let sense : Sense g.row.D.Denot = record { tells = g.D.Disk.tells; content = g.D.Disk.content; honest = g.D.Disk.honest } in
     let tags : Tags = record { good = g.E.Envelope.good; told = g.E.Envelope.tag_of } in
-    read_goes _ (g.F.Files.holds c.args.files.now) (λ at. limited policy_limit (at c.args.policy)) IsLoaded (λ at. RunsPolicy sense tags c.args.disks.now.items _ (limited script_limit (at c.args.script))) c.in-Ok.loaded
+    read_goes (c.run_loaded.new.disks.items ≡ c.args.disks.now.items) (g.F.Files.holds c.args.files.now) (λ at. limited policy_limit (at c.args.policy)) IsLoaded (λ at. RunsPolicy sense tags c.args.disks.now.items c.run_loaded.new.disks.items (limited script_limit (at c.args.script))) c.in-Ok.loaded
     c.run_loaded.result _ _ c.in-Ok.ensures.loads (rw c.in-Ok.ensures.holds at c.run_loaded.ensures.goes told honest)
 
 pub returns-in-Err-clause-goes : goal.returns-in-Err-clause-goes

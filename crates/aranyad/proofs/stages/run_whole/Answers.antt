@@ -10,7 +10,7 @@ pub returns-in-Ok-clause-goes : goal.returns-in-Ok-clause-goes
 returns-in-Ok-clause-goes g c = λ told honest.
     let sense : Sense g.row.D.Denot = record { tells = g.D.Disk.tells; content = g.D.Disk.content; honest = g.D.Disk.honest } in
     let tags : Tags = record { good = g.E.Envelope.good; told = g.E.Envelope.tag_of } in
-    read_goes _ (g.F.Files.holds c.args.files.now) (λ at. limited script_limit (at c.args.script)) IsScriptFile (λ at. RunsWorld sense tags c.args.disks.now.items _ c.args.digest.now c.args.policy) c.in-Ok.script
+    read_goes (c.run_script.new.disks.items ≡ c.args.disks.now.items) (g.F.Files.holds c.args.files.now) (λ at. limited script_limit (at c.args.script)) IsScriptFile (λ at. RunsWorld sense tags c.args.disks.now.items c.run_script.new.disks.items c.args.digest.now c.args.policy) c.in-Ok.script
     c.run_script.result _ _ c.in-Ok.ensures.loads (told_all (g.F.Files.holds c.args.files.now) _ (λ at. c.run_script.ensures.goes told honest))
 
 pub returns-in-Err-clause-goes : goal.returns-in-Err-clause-goes
