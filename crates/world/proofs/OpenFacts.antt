@@ -19,8 +19,8 @@ use Rattle.replica.specs.Disks.{OpensAlike, OpensWhole, OpensWithDisk, Sense}
 use Rattle.replica.specs.Fronts.{AnswersOpening, Front, OpensAs, Opens, front_of}
 use Rattle.replica.specs.Kept.{Kept}
 use Rattle.script_texts.specs.Bytes.{Bytes}
-use Rattle.world.specs.Crashes.{AreOpened, AreSafe, IsRefused, OpenWhole, OpensTo, RefusesFirst, criteria}
-use Rattle.world.specs.Stops.{NoneFell, SomeRose}
+use Rattle.world.specs.Crashes.{AreOpened, AreSafe, IsRefused, IsWhyNot, OpenWhole, OpensTo, RefusesFirst, criteria}
+use Rattle.world.specs.Stops.{HasCause, NoneFell, SomeRose}
 use Rattle.world.specs.Worlds.{AreUp, EachPair, Named, kept_of}
 use Rattle.world.specs.declared.stop.RunStop.{RunStop}
 use Rattle.world.specs.declared.stop.RunStop.TheVariants as stop
@@ -38,6 +38,18 @@ first_off (y ∷ ys) left x some is behind = ap (λ z. z ∷ ys) (sym is) ∙ ap
 name_at : (names : List Bytes) (i : ℕ) (name : Bytes) → i < length names → name ≡ get_or names i name → drop i names ≡ name ∷ drop (i + 1) names
 name_at names i name inside is = drop-cons names i name inside ∙ ap (λ l. l ∷ drop (suc i) names) (sym is) ∙ rw add-one refl
 
+up_more : {D : Type 0} (rs : List (Named D)) (r : Named D) → AreUp rs → r.kept.down ≡ None → AreUp (rs ++ r ∷ [])
+up_more [] r up is = (is, tt)
+up_more (x ∷ xs) r up is = (up.0, up_more xs r up.1 is)
+
+disks_more : {D : Type 0} (rs : List (Named D)) (r : Named D) (news : List D) → map (λ (x : Named D). x.kept.disk) rs ++ r.kept.disk ∷ news ≡ map (λ (x : Named D). x.kept.disk) (rs ++ r ∷ []) ++ news
+disks_more [] r news = refl
+disks_more (x ∷ xs) r news = ap (λ ds. x.kept.disk ∷ ds) (disks_more xs r news)
+
+none_fall : {D : Type 0} (faults : D → ℕ) (disks : List D) → NoneFell faults disks disks
+none_fall faults disks = pair_same (λ d e. faults d ≤ faults e) (λ d. omega arith) disks
+
+
 module _ {D : Type 0} (sense : Sense D) (good : List ℕ → List ℕ → List ℕ → Bool) (faults : D → ℕ) (policy : List PlacedItem) (digest : List ℕ) where
   -- ---- disks that stay
 
@@ -46,9 +58,6 @@ module _ {D : Type 0} (sense : Sense D) (good : List ℕ → List ℕ → List �
 
   all_whole : (disks : List D) → OpenWhole sense good policy digest disks disks
   all_whole disks = pair_same (λ d e. OpensWhole (criteria sense good policy digest) (sense.content d) (sense.content e)) (λ d. still_whole (sense.content d)) disks
-
-  none_fall : (disks : List D) → NoneFell faults disks disks
-  none_fall disks = pair_same (λ d e. faults d ≤ faults e) (λ d. omega arith) disks
 
   -- ---- one replica
 
@@ -94,8 +103,6 @@ module _ {D : Type 0} (sense : Sense D) (good : List ℕ → List ℕ → List �
   pub record Opening (names : List Bytes) (disks : List D) (replicas : List (Named D)) (ns : List Bytes) (left : List D) : Type 0 where
     pub opened : (rest : List (Named D)) → AreOpened sense good policy digest ns left rest → AreOpened sense good policy digest names disks (replicas ++ rest)
     pub refuses : (n : Bytes) (c : OpenFault) → RefusesFirst sense good policy digest ns left n c → RefusesFirst sense good policy digest names disks n c
-    pub up : AreUp replicas
-    pub fell : (news : List D) → NoneFell faults left news → NoneFell faults disks (map (λ r. r.kept.disk) replicas ++ news)
     pub rose : (news : List D) → SomeRose faults left news → SomeRose faults disks (map (λ r. r.kept.disk) replicas ++ news)
     pub crash : IsTrue sense.tells → AllHonest sense good faults policy digest disks
         → AllHonest sense good faults policy digest left × EachSafe sense good faults policy digest replicas
@@ -105,31 +112,19 @@ module _ {D : Type 0} (sense : Sense D) (good : List ℕ → List ℕ → List �
   none_opened names disks = record {
     opened = λ rest opened. opened;
     refuses = λ n c refuses. refuses;
-    up = tt;
-    fell = λ news fell. fell;
     rose = λ news rose. rose;
     crash = λ tells honest. (honest, tt, λ news whole. whole);
   }
 
-  up_more : (rs : List (Named D)) (r : Named D) → AreUp rs → r.kept.down ≡ None → AreUp (rs ++ r ∷ [])
-  up_more [] r up is = (is, tt)
-  up_more (x ∷ xs) r up is = (up.0, up_more xs r up.1 is)
-
   safe_more : (rs : List (Named D)) (r : Named D) → EachSafe sense good faults policy digest rs → IsSafe sense good r.kept → EachSafe sense good faults policy digest (rs ++ r ∷ [])
   safe_more [] r each is = (is, tt)
   safe_more (x ∷ xs) r each is = (each.0, safe_more xs r each.1 is)
-
-  disks_more : (rs : List (Named D)) (r : Named D) (news : List D) → map (λ (x : Named D). x.kept.disk) rs ++ r.kept.disk ∷ news ≡ map (λ (x : Named D). x.kept.disk) (rs ++ r ∷ []) ++ news
-  disks_more [] r news = refl
-  disks_more (x ∷ xs) r news = ap (λ ds. x.kept.disk ∷ ds) (disks_more xs r news)
 
   opening_more : (names : List Bytes) (disks : List D) (replicas : List (Named D)) (name : Bytes) (ns : List Bytes) (disk : D) (left : List D) (one : Named D) → Opening names disks replicas (name ∷ ns) (disk ∷ left)
       → IsOpenedAs sense good faults policy digest name disk one → Opening names disks (replicas ++ one ∷ []) ns left
   opening_more names disks replicas name ns disk left one o is = record {
     opened = λ rest opened. subst (AreOpened sense good policy digest names disks) (sym (append_assoc replicas (one ∷ []) rest)) (o.opened (one ∷ rest) (is.named, is.opened, is.opens, opened));
     refuses = λ n c refuses. o.refuses n c (inr ((front_of one.kept.held, is.opens), refuses));
-    up = up_more replicas one o.up (ap (λ (k : Kept D). k.down) is.opened.same);
-    fell = λ news fell. subst (NoneFell faults disks) (disks_more replicas one news) (o.fell (one.kept.disk ∷ news) (is.disk_then.later, fell));
     rose = λ news rose. subst (SomeRose faults disks) (disks_more replicas one news) (o.rose (one.kept.disk ∷ news) (inr rose));
     crash = λ tells honest.
         let c = o.crash tells honest in (
@@ -143,8 +138,6 @@ module _ {D : Type 0} (sense : Sense D) (good : List ℕ → List ℕ → List �
   opening_ends names disks replicas left o behind = record {
     opened = subst (AreOpened sense good policy digest names disks) (append-nil replicas) (o.opened [] tt);
     behind = behind;
-    up = o.up;
-    none_fell = o.fell left (none_fall left);
     crash = λ tells honest. let c = o.crash tells honest in (c.2 left (all_whole left), c.1);
   }
 
@@ -152,7 +145,6 @@ module _ {D : Type 0} (sense : Sense D) (good : List ℕ → List ℕ → List �
       → IsNotOpened sense good faults policy digest name disk why back → AreHandedBack sense good faults policy digest names disks why (map (λ r. r.kept.disk) replicas ++ back ∷ left)
   opening_stops names disks replicas name ns disk left why back o is = record {
     cause = by why is.cause;
-    none_fell = o.fell (back ∷ left) (is.disk_then.later, none_fall left);
     crash = λ tells honest. let c = o.crash tells honest in c.2 (back ∷ left) (is.disk_then.whole tells c.0.0, all_whole left);
   }
     where
@@ -166,9 +158,18 @@ module _ {D : Type 0} (sense : Sense D) (good : List ℕ → List ℕ → List �
   pub handed_back : (names : List Bytes) (disks : List D) (why : RunStop) → why ≡ stop.NoMemory → AreHandedBack sense good faults policy digest names disks why disks
   handed_back names disks why none = record {
     cause = subst (IsStopFor ⊥ (SomeRose faults disks disks) (RefusesFirst sense good policy digest names disks)) (sym none) tt;
-    none_fell = none_fall disks;
     crash = λ tells honest. all_whole disks;
   }
+
+  -- why no world is opened
+  why_by : (names : List Bytes) (disks back : List D) (s : RunStop) → IsStopFor ⊥ (SomeRose faults disks back) (RefusesFirst sense good policy digest names disks) s → IsWhyNot sense good policy digest names disks s
+  why_by names disks back stop.DiskFault is = tt
+  why_by names disks back stop.SealFault is = is
+  why_by names disks back (stop.Journal n c) is = is
+  why_by names disks back stop.NoMemory is = tt
+
+  pub why_not : (names : List Bytes) (disks : List D) (why : RunStop) (back : List D) → AreHandedBack sense good faults policy digest names disks why back → IsWhyNot sense good policy digest names disks why
+  why_not names disks why back handed = why_by names disks back why handed.cause
 
   -- each replica that is found is safe
   safe_first : (b : Bool) (r : Named D) (rs : List (Named D)) (a : Bytes) (kept : Kept D) → option_map (λ (x : Named D). x.kept) (cond b (Some r) (find (λ x. bytes_eq x.name a) rs)) ≡ Some kept → IsSafe sense good r.kept
@@ -180,6 +181,9 @@ module _ {D : Type 0} (sense : Sense D) (good : List ℕ → List ℕ → List �
   all_safe [] each = λ a kept is. absurd cc
   all_safe (r ∷ rs) each = λ a kept is. safe_first (bytes_eq r.name a) r rs a kept is each.0 (λ there. all_safe rs each.1 a kept there)
 
+pub counts_still : {D : Type 0} (faults : D → ℕ) (disks : List D) (why : RunStop) → why ≡ stop.NoMemory → NoneFell faults disks disks × HasCause 0 0 faults disks disks why
+counts_still faults disks why none = (none_fall faults disks, subst (HasCause 0 0 faults disks disks) (sym none) tt)
+
 -- ---- the loop over names
 
 -- There is room for what is left to open, and for handing all disks back.
@@ -190,10 +194,17 @@ pub record HasRoom {A D : Type 0} (names : List Bytes) (disks : List D) (room wi
   pub place : length replicas + length ns ≤ room
   pub fits : length replicas + length left ≤ wide
 
+-- The replicas so far are up. What is known of the counts of the disks that are left is known of all.
+pub record Counts {D : Type 0} (faults : D → ℕ) (disks : List D) (replicas : List (Named D)) (left : List D) : Type 0 where
+  pub up : AreUp replicas
+  pub fell : (news : List D) → NoneFell faults left news → NoneFell faults disks (map (λ r. r.kept.disk) replicas ++ news)
+  pub rose : (news : List D) → SomeRose faults left news → SomeRose faults disks (map (λ r. r.kept.disk) replicas ++ news)
+
 -- And each policy under which the runners are is that of what was opened.
 pub record OpensSo {A D : Type 0} (sense : Sense D) (good : List ℕ → List ℕ → List ℕ → Bool) (faults : D → ℕ) (digest : List ℕ) (rules : A → List PlacedItem) (all : List A) (names : List Bytes) (disks : List D) (room wide : ℕ)
     (replicas : List (Named D)) (runners : List A) (ns : List Bytes) (left : List D) : Type 0 where
   pub has_room : HasRoom names disks room wide replicas runners ns left
+  pub counts : Counts faults disks replicas left
   pub opening : (policy : List PlacedItem) → All (λ r. rules r ≡ policy) all → All (λ r. rules r ≡ policy) runners × Opening sense good faults policy digest names disks replicas ns left
 
 module _ {A D : Type 0} (sense : Sense D) (good : List ℕ → List ℕ → List ℕ → Bool) (faults : D → ℕ) (digest : List ℕ) (rules : A → List PlacedItem) (all : List A) (names : List Bytes) (disks : List D) where
@@ -201,6 +212,7 @@ module _ {A D : Type 0} (sense : Sense D) (good : List ℕ → List ℕ → List
       → OpensSo sense good faults digest rules all names disks room wide [] all names disks
   opens_first room wide counted enough place fits = record {
     has_room = record { behind = refl; counted = counted; enough = enough; place = omega (arith, place); fits = omega (arith, fits) };
+    counts = record { up = tt; fell = λ news fell. fell; rose = λ news rose. rose };
     opening = λ policy each. (each, none_opened sense good faults policy digest names disks);
   }
 
@@ -227,6 +239,11 @@ module _ {A D : Type 0} (sense : Sense D) (good : List ℕ → List ℕ → List
             place = omega (arith, at.has_room.place, up, length-append replicas (one ∷ []));
             fits = omega (arith, at.has_room.fits, wider, length-append replicas (one ∷ []));
           };
+          counts = record {
+            up = up_more replicas one at.counts.up (ap (λ (k : Kept D). k.down) is.opened.same);
+            fell = λ news fell. subst (NoneFell faults disks) (disks_more replicas one news) (at.counts.fell (one.kept.disk ∷ news) (is.disk_then.later, fell));
+            rose = λ news rose. subst (SomeRose faults disks) (disks_more replicas one news) (at.counts.rose (one.kept.disk ∷ news) (inr rose));
+          };
           opening = λ policy each. by policy (at.opening policy each);
         })
       where
@@ -247,6 +264,23 @@ module _ {A D : Type 0} (sense : Sense D) (good : List ℕ → List ℕ → List
             subst (AreHandedBack sense good faults policy digest names disks why) (sym same)
             (opening_stops sense good faults policy digest names disks replicas name (drop (i + 1) names) disk rest why back o
             (subst (λ p. IsNotOpened sense good faults p digest name disk why back) (All-head (λ r. rules r ≡ policy) runner behind own) is))
+
+    pub counts_stop : (why : RunStop) (back : D) (handed : List D) → OpensOne sense good faults (rules runner) digest name disk (Err (why, back)) → handed ≡ map (λ r. r.kept.disk) replicas ++ back ∷ rest
+        → NoneFell faults disks handed × HasCause 0 0 faults disks handed why
+    counts_stop why back handed is same =
+        subst (λ ds. NoneFell faults disks ds × HasCause 0 0 faults disks ds why) (sym same)
+        (at_name.counts.fell (back ∷ rest) (is.disk_then.later, none_fall faults rest), by why is.cause)
+      where
+        by : (s : RunStop) → IsStopFor ⊥ (Rose (faults disk) (faults back)) (λ told cause. (told ≡ name) × IsRefused sense good (criteria sense good (rules runner) digest) disk cause) s
+            → HasCause 0 0 faults disks (map (λ r. r.kept.disk) replicas ++ back ∷ rest) s
+        by stop.DiskFault rose = at_name.counts.rose (back ∷ rest) (inl rose)
+        by stop.SealFault none = absurd none
+        by (stop.Journal n c) refused = tt
+        by stop.NoMemory none = tt
+
+  pub counts_last : (room wide : ℕ) (replicas : List (Named D)) (runners : List A) (ns : List Bytes) (left : List D) → OpensSo sense good faults digest rules all names disks room wide replicas runners ns left
+      → AreUp replicas × NoneFell faults disks (map (λ r. r.kept.disk) replicas ++ left)
+  counts_last room wide replicas runners ns left so = (so.counts.up, so.counts.fell left (none_fall faults left))
 
   pub opens_last : (room wide : ℕ) (replicas : List (Named D)) (runners : List A) (ns : List Bytes) (left : List D) → OpensSo sense good faults digest rules all names disks room wide replicas runners ns left → ns ≡ []
       → (policy : List PlacedItem) → All (λ r. rules r ≡ policy) all → AreAllOpened sense good faults policy digest names disks replicas left

@@ -3,7 +3,7 @@
 
 ghost use Rattle.std.specs.Prelude.{◌≡◌, ◌≤◌, ◌<◌, ◌+◌, ◌++◌, ◌∷◌, [], All, IfOk, List, length, map, vec_capacity};
 ghost use Rattle.policy_ast.specs.declared.policy.PlacedItem.{PlacedItem};
-ghost use Rattle.world.specs.working.Opening.{IsOpeningStop, OpensAll, OpensOne};
+ghost use Rattle.world.specs.working.Opening.{CountsAll, IsOpeningStop, OpensAll, OpensOne};
 
 use crate::named::Named;
 use crate::stop::RunStop;
@@ -104,6 +104,7 @@ pub fn open_all<R: Runner, G: Graph, F: FactBase, D: Disk, E: Envelope>(
     requires runners { length runners.items ≡ length names.now }
     requires disks { length names.now ≤ length disks.items }
     ensures opens { (policy : List PlacedItem) → All (λ r. R.rules r ≡ policy) runners.items → OpensAll (record { tells = D.tells; content = D.content; honest = D.honest }) E.good D.faults policy digest.now names.now disks.items result }
+    ensures counts { CountsAll D.faults disks.items result }
     ensures room { IfOk result (λ both. length both.0.items + length both.1.items ≤ vec_capacity both.1) }
 {
     let mut replicas = match Vec::with_capacity(alloc, names.len()) {

@@ -12,7 +12,7 @@ use Rattle.replica.specs.Disks.{OpensWhole, Sense}
 use Rattle.replica.specs.Fronts.{front_of}
 use Rattle.script_texts.specs.Bytes.{Bytes}
 use Rattle.world.specs.Crashes.{AreOpened, IsRefused, OpenWhole, OpensTo, RefusesFirst, criteria}
-use Rattle.world.specs.Stops.{NoneFell, SomeRose}
+use Rattle.world.specs.Stops.{HasCause, NoneFell, SomeRose}
 use Rattle.world.specs.Worlds.{AreUp, Named}
 use Rattle.world.specs.declared.stop.RunStop.{RunStop}
 use Rattle.world.specs.declared.stop.RunStop.TheVariants as stop
@@ -63,16 +63,18 @@ module _ {D : Type 0} (sense : Sense D) (good : List ℕ → List ℕ → List �
   pub record AreAllOpened (names : List Bytes) (disks : List D) (replicas : List (Named D)) (spare : List D) : Type 0 where
     pub opened : AreOpened sense good policy digest names disks replicas
     pub behind : spare ≡ drop (length names) disks
-    pub up : AreUp replicas
-    pub none_fell : NoneFell faults disks (map (λ r. r.kept.disk) replicas ++ spare)
     pub crash : IsTrue sense.tells → AllHonest disks → OpenWhole sense good policy digest disks (map (λ r. r.kept.disk) replicas ++ spare) × EachSafe replicas
 
   -- Some disk isn't opened, and all are handed back.
   pub record AreHandedBack (names : List Bytes) (disks : List D) (why : RunStop) (back : List D) : Type 0 where
     pub cause : IsStopFor ⊥ (SomeRose faults disks back) (RefusesFirst sense good policy digest names disks) why
-    pub none_fell : NoneFell faults disks back
     pub crash : IsTrue sense.tells → AllHonest disks → OpenWhole sense good policy digest disks back
 
   abbrev pub OpensAll : List Bytes → List D → Result (Vec (Named D) Global × Vec D Global) (RunStop × Vec D Global) → Type 0
   OpensAll names disks (Ok both) = AreAllOpened names disks both.0.items both.1.items
   OpensAll names disks (Err refused) = AreHandedBack names disks refused.0 refused.1.items
+
+-- Whatever the policies: the replicas are up, no count of faults fell, and where a disk isn't opened for a fault, one rose.
+abbrev pub CountsAll : {D : Type 0} → (D → ℕ) → List D → Result (Vec (Named D) Global × Vec D Global) (RunStop × Vec D Global) → Type 0
+CountsAll faults disks (Ok both) = AreUp both.0.items × NoneFell faults disks (map (λ r. r.kept.disk) both.0.items ++ both.1.items)
+CountsAll faults disks (Err refused) = NoneFell faults disks refused.1.items × HasCause 0 0 faults disks refused.1.items refused.0

@@ -14,6 +14,6 @@ returns-in-Ok-open_on g c = record {
 
 pub returns : goal.returns
 returns g c = record {
-  opens = refused_one (record { tells = g.D.Disk.tells; content = g.D.Disk.content; honest = g.D.Disk.honest }) g.E.Envelope.good g.D.Disk.faults (g.R.Runner.rules c.args.runner) c.args.digest.now g.D.Disk.last_step c.args.name.now c.args.disk c.in-Ok.own c.in-Err-open_on.refused.0 c.stopped.result c.in-Err-open_on.refused.2 c.in-Ok.ensures
+  opens = refused_one (record { tells = g.D.Disk.tells; content = g.D.Disk.content; honest = g.D.Disk.honest }) g.E.Envelope.good g.D.Disk.faults (g.R.Runner.rules c.args.runner) c.args.digest.now g.D.Disk.last_step c.args.name.now c.args.disk c.in-Ok.own c.in-Err-open_on.fault c.stopped.result c.in-Err-open_on.disk c.in-Ok.ensures
       c.stopped.ensures c.in-Err-open_on.ensures.opens c.in-Err-open_on.ensures.cause c.in-Err-open_on.ensures.crash;
 }
