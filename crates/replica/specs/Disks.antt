@@ -1,6 +1,8 @@
 -- What a crash may leave of a replica's disk: at each moment its image opens to what the replica was before or is after.
 use Rattle.std.specs.Prelude.{◌≡◌, ◌⊎◌, ℕ, ◌≤◌, Bool, IsTrue, List, Option, Some, Result, Err}
 use Rattle.braid_run.specs.Soundness.{AreSound, Criteria}
+use Rattle.journal.specs.Images.{IsBegun}
+use Rattle.journal.specs.Journal.{WasOrReadsAlike}
 use Rattle.journal.specs.declared.commit.Commit.{Commit}
 use Rattle.journal.specs.declared.fault.OpenFault.{OpenFault}
 use Rattle.journal.specs.declared.fault.OpenFault.TheVariants as fault
@@ -8,7 +10,7 @@ use Rattle.outside.specs.Causes.{Rose}
 use Rattle.outside.specs.Crashes.{LeavesOnly, MayLeave}
 use Rattle.outside.specs.Disk.{Content}
 use Rattle.outside.specs.declared.faults.DiskStep.{DiskStep}
-use Rattle.replica.specs.Fronts.{Front, Opening, OpensAs, Opens, behind_commit, front_of}
+use Rattle.replica.specs.Fronts.{Front, OpensAs, Opens, behind_commit, front_of}
 use Rattle.replica.specs.Kept.{Kept, criteria_of, loose_of}
 use Rattle.replica.specs.declared.refusal.Refusal.{Refusal}
 use Rattle.replica.specs.declared.refusal.Refusal.TheVariants as refusal
@@ -67,10 +69,8 @@ module _ {D : Type 0} where
 
 -- ---- an opening
 
--- The image opens to whatever the disk read as the opening began.
-abbrev pub OpensAlike : Criteria → List ℕ → List ℕ → Type 0
-OpensAlike criteria reads image = (opening : Opening) → OpensAs criteria reads opening → OpensAs criteria image opening
-
--- A crash at any moment of an opening leaves what one might have left before, or what opens alike.
-abbrev pub OpensWhole : Criteria → Content → Content → Type 0
-OpensWhole criteria old new = LeavesOnly old new (λ image. MayLeave old image ⊎ OpensAlike criteria old.reads image)
+-- A crash at any moment of an opening leaves what one might have left before, or an image that reads as the commits which the disk read as the opening began, and so
+-- opens to the same. Where a journal was begun, refused or not, nothing is written.
+pub record OpensWhole (digest : List ℕ) (old new : Content) : Type 0 where
+  pub moments : LeavesOnly old new (WasOrReadsAlike digest old)
+  pub kept : IsBegun old.reads → new.reads ≡ old.reads

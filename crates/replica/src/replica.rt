@@ -87,7 +87,7 @@ impl<R: Runner, G: Graph, F: FactBase, D: Disk> Replica<R, G, F, D> {
         ensures sound { IfOk result (λ replica. AreSoundFronts E.good replica) }
         ensures opens { IsTrue D.tells → AnswersOpening (record { policy = R.rules runner; digest = digest.now; good = E.good }) (D.content disk).reads (opened_front result) }
         ensures runner { IfErr result (λ refused. refused.1 ≡ runner) }
-        ensures crash { IsTrue D.tells → IsTrue (D.honest disk) → OpensWhole (record { policy = R.rules runner; digest = digest.now; good = E.good }) (D.content disk) (D.content (opened_disk result)) }
+        ensures crash { IsTrue D.tells → IsTrue (D.honest disk) → OpensWhole digest.now (D.content disk) (D.content (opened_disk result)) }
         ensures trusted { IsTrue D.tells → IsTrue (D.honest disk) → IfOk result (λ replica. IsTrusted E.good (record { tells = D.tells; content = D.content; honest = D.honest }) replica
             × Survives E.good (record { tells = D.tells; content = D.content; honest = D.honest }) replica) }
         ensures honest { D.honest (opened_disk result) ≡ D.honest disk }

@@ -78,9 +78,9 @@ module _ {D : Type 0} (sense : Sense D) (good : List ℕ → List ℕ → List �
     OpensWorld names disks (Ok site) = IsOpenedOn names disks site
     OpensWorld names disks (Err refused) = IsWhyNot names disks refused.0
 
-    -- Each disk at each moment of an opening: what a crash might have left before, or what opens alike.
+    -- Each disk at each moment of an opening: what a crash might have left before, or what reads as the same commits; and a journal that was begun is left as it is.
     abbrev pub OpenWhole : List D → List D → Type 0
-    OpenWhole old new = EachPair (λ d e. OpensWhole criteria (sense.content d) (sense.content e)) old new
+    OpenWhole old new = EachPair (λ d e. OpensWhole digest (sense.content d) (sense.content e)) old new
 
 -- All disks behind an opening: those of the world, or those handed back.
 abbrev pub opened_disks : {D : Type 0} → Result (Site D) (RunStop × Vec D Global) → List D
