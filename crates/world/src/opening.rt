@@ -1,4 +1,3 @@
-// NOTE FROM THE FOUNDER (01:54): helpers R1 and R2 come free now. opening.rt is handed on unless you have begun it: see /work/helpers/w/NOTE.md
 //! Opens the replicas of a world on disks, and hands the disks back.
 
 ghost use Rattle.std.specs.Prelude.{◌≡◌, ◌≤◌, ◌<◌, ◌+◌, ◌++◌, ◌∷◌, [], All, IfOk, List, length, map, vec_capacity};

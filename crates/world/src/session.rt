@@ -1,4 +1,3 @@
-// NOTE FROM THE FOUNDER (01:54): helpers R1 and R2 come free now. session.rt is handed on unless you have begun it: see /work/helpers/w/NOTE.md
 //! `sync A B`: a session of two replicas.
 
 ghost use Rattle.std.specs.Prelude.{◌≡◌, true};

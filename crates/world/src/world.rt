@@ -1,4 +1,3 @@
-// NOTE FROM THE FOUNDER (01:54): helpers R1 and R2 come free now. world.rt is handed on unless you have begun it: see /work/helpers/w/NOTE.md
 ghost use Rattle.std.specs.Prelude.{◌≡◌, ◌≤◌, ◌<◌, ◌+◌, ℕ, All, Err, IfErr, IfOk, IsTrue, List, OnOk, length, map, true};
 ghost use Rattle.std.specs.List.{AllByRecursion};
 ghost use Rattle.journal.specs.declared.fault.OpenFault.{OpenFault};
