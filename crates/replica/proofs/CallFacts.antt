@@ -104,11 +104,11 @@ module _ {D : Type 0} (sense : Sense D) (faults : D → ℕ) (last_step : D → 
           (
             gave.target,
             subst (λ y. gives y gave.target) (sym (replies x refl)) gave.given,
-            record { same = ap (λ h. record kept_new { held = h }) ends.0 ∙ ap (λ d. record kept_new { held = gave.target; down = d }) ends.1 },
+            record { same = ap (λ h. record kept_new { held = h }) ends.0 ∙ ap (λ d. record kept_new { held = gave.target; down = d }) ends.1; still = ends.2 },
           ),
         )
         by (Err why) replies (inl lacks) = inl (up, inl lacks.0, ap (kept_of policy digest author) lacks.1)
-        by (Err why) replies (inr (step, commit, is, leads, same, falls, outlined)) = inr (inl (
+        by (Err why) replies (inr (step, commit, is, some, leads, same, falls, outlined)) = inr (inl (
           up,
           (
             step,
@@ -118,6 +118,7 @@ module _ {D : Type 0} (sense : Sense D) (faults : D → ℕ) (last_step : D → 
               held = gave.target;
               given = gave.given;
               commit = commit;
+              some = some;
               leads = leads;
               same =
                   ap (λ h. record kept_new { held = h }) same
@@ -135,7 +136,7 @@ module _ {D : Type 0} (sense : Sense D) (faults : D → ℕ) (last_step : D → 
         by : (r : Result T Refusal) → EndsCommitting gave.target old r new → IsReplica policy digest new.held
         by (Ok x) ends = subst (IsReplica policy digest) (sym ends.0) gave.replica
         by (Err why) (inl lacks) = subst (λ p. IsReplica policy digest p.held) (sym lacks.1) is
-        by (Err why) (inr (step, commit, fails, leads, same, falls, outlined)) = subst (IsReplica policy digest) (sym same) is
+        by (Err why) (inr (step, commit, fails, some, leads, same, falls, outlined)) = subst (IsReplica policy digest) (sym same) is
 
     -- its disk has the journal of what it holds
     pub backed_done : Does sense faults last_step the gives refuses old result new → IsBacked sense digest old.held old.down old.journal → IsBacked sense digest new.held new.down new.journal
@@ -157,8 +158,8 @@ module _ {D : Type 0} (sense : Sense D) (faults : D → ℕ) (last_step : D → 
         by (Ok x) ends front (inl is) = subst (IsSoundFront the) (sym (is ∙ ap front_of ends.0)) will
         by (Ok x) ends front (inr (commit, loose, is)) = let none : None ≡ Some commit = ap loose_of (sym ends.1) ∙ loose in absurd cc
         by (Err why) (inl lacks) front may = subst (λ p. AreSoundFronts good (kept_of policy digest author p)) (sym lacks.1) sound front may
-        by (Err why) (inr (step, commit, fails, leads, same, falls, outlined)) front (inl is) = subst (IsSoundFront the) (sym (is ∙ ap front_of same)) was
-        by (Err why) (inr (step, commit, fails, leads, same, falls, outlined)) front (inr (other, loose, is)) =
+        by (Err why) (inr (step, commit, fails, some, leads, same, falls, outlined)) front (inl is) = subst (IsSoundFront the) (sym (is ∙ ap front_of same)) was
+        by (Err why) (inr (step, commit, fails, some, leads, same, falls, outlined)) front (inr (other, loose, is)) =
             let both : Some commit ≡ Some other = ap loose_of (sym falls) ∙ loose in
             let one : other ≡ commit = cc in
             subst (IsSoundFront the) (sym (is ∙ ap (λ h. behind_commit (front_of h) other) same ∙ ap (λ c. behind_commit (front_of old.held) c) one ∙ sym leads)) will

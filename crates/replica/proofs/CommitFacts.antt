@@ -20,6 +20,7 @@ use Rattle.outside.proofs.Crashes.{no_calls, weaker}
 use Rattle.replica.specs.Disks.{FailsWithDisk, Sense}
 use Rattle.replica.specs.Fronts.{Front, behind_commit, behind_commits, front_of, no_front}
 use Rattle.replica.specs.Kept.{loose_of}
+use Rattle.replica.specs.Steps.{IsChange}
 use Rattle.replica.specs.declared.down.Down.{Down}
 use Rattle.replica.specs.declared.refusal.Refusal.{Refusal}
 use Rattle.replica.specs.declared.refusal.Refusal.TheVariants as refusal
@@ -39,6 +40,15 @@ named_some None [] some = absurd (omega (arith, some))
 named_some None (c ∷ cs) some = refl
 named_some (Some id) [] some = refl
 named_some (Some id) (c ∷ cs) some = refl
+
+none_is : (id : Option (List ℕ)) → IsTrue (is_none id) → id ≡ None
+none_is None is = refl
+none_is (Some id) is = absurd cc
+
+-- a commit that changes something leads elsewhere
+not_itself : (front : Front) (commit : Commit) → IsChange front commit → behind_commit front commit ≡ front → ⊥
+not_itself front (Graph id) none same = let no : Some id ≡ None = ap (λ f. f.graph_id) same ∙ none in absurd cc
+not_itself front (Commands cs) some same = omega (arith, some, ap (λ f. length f.commands) same, length-append front.commands cs)
 
 -- ---- what may be added
 
@@ -118,6 +128,17 @@ module _ {D : Type 0} (sense : Sense D) (faults : D → ℕ) (last_step : D → 
       by : (c : Commit) → CanAdd (journal_outline old) c → front_of target ≡ behind_commit (front_of held) c → is_none target.graph_id ≡ false
       by (Graph id) can leads = ap (λ f. is_none f.graph_id) leads
       by (Commands cs) can leads = ap (λ f. is_none f.graph_id) leads ∙ named_some held.graph_id cs can.some
+
+  -- it changes what is held
+  pub is_change : CanAdd (journal_outline old) commit → IsChange (front_of held) commit
+  is_change can = by commit can
+    where
+      by : (c : Commit) → CanAdd (journal_outline old) c → IsChange (front_of held) c
+      by (Graph id) can = none_is held.graph_id (subst IsTrue is.fresh can)
+      by (Commands cs) can = can.some
+
+  pub changes : CanAdd (journal_outline old) commit → front_of target ≡ front_of held → ⊥
+  changes can same = not_itself (front_of held) commit (is_change can) (sym leads ∙ same)
 
   further : (commits : List Commit) → LeadTo commits held → LeadTo (commits ++ commit ∷ []) target
   further commits lead = behind_one_more no_front commits commit ∙ ap (λ f. behind_commit f commit) lead ∙ sym leads
@@ -225,7 +246,7 @@ module _ {D : Type 0} (sense : Sense D) (faults : D → ℕ) (last_step : D → 
   -- where it is held already
   pub commits_nothing : {T : Type 0} (x : T) → held ≡ target → Commits sense faults last_step digest target before (Ok x) before
   commits_nothing x same = record {
-    ends = (same, up);
+    ends = (same, up, λ alike. refl);
     backed = backed_still;
     moments = still;
     honest = refl;
@@ -249,7 +270,7 @@ module _ {D : Type 0} (sense : Sense D) (faults : D → ℕ) (last_step : D → 
     commits_done x y now writes same =
         let rises : new_down ≡ None = writes.ends.0 ∙ up in
         let backed = backed_with sense faults last_step digest target held commit old new is leads down new_down x can writes in record {
-          ends = (same, rises);
+          ends = (same, rises, λ alike. absurd (changes sense faults last_step digest target held commit old new is leads can alike));
           backed = subst (λ d. IsBacked sense digest now d new) (sym rises) (subst (λ h. IsBacked sense digest h None new) (sym same) backed);
           moments = meanwhile sense faults last_step digest target held commit old new is leads down (Ok x) new_down writes now (loose_of new_down)
               (λ commits image lead leads_further reads. done commits image lead (subst (λ h. LeadTo (commits ++ commit ∷ []) h) (sym same) leads_further) reads);
@@ -280,7 +301,7 @@ module _ {D : Type 0} (sense : Sense D) (faults : D → ℕ) (last_step : D → 
         by (inr fails) =
             let falls : new_down ≡ Some (record { step = fails.0; loose = Some commit }) = fails.2 in
             let loose : Some commit ≡ loose_of new_down = ap loose_of (sym falls) in record {
-              ends = inr (fails.0, commit, fails.1, leads, refl, falls, fails.3);
+              ends = inr (fails.0, commit, fails.1, is_change sense faults last_step digest target held commit old new is leads can, leads, refl, falls, fails.3);
               backed = subst (λ d. IsBacked sense digest held d new) (sym falls) (backed_loosely sense faults last_step digest target held commit old new is leads fails.0 fails.3 writes.honest writes.moments);
               moments = meanwhile sense faults last_step digest target held commit old new is leads down (Err why) new_down writes held (loose_of new_down)
                   (λ commits image lead leads_further reads. subst (λ l. ReadsHeld digest held None image ⊎ ReadsHeld digest held l image) loose (loosely commits image lead leads_further reads));

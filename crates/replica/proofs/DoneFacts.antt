@@ -31,7 +31,7 @@ replies_with (Err why) reply is x same = absurd cc
 pub no_act_fault : {D T : Type 0} (target : Held) (old : Parts D) (result : Result T Refusal) (new : Parts D) (fault : ActFault) (X : Type 0) → EndsCommitting target old result new → IfErr result (λ why. why ≡ refusal.Act fault → X)
 no_act_fault target old (Ok x) new fault X ends = tt
 no_act_fault target old (Err why) new fault X (inl lacks) = λ is. let no_fault : refusal.NoMemory ≡ refusal.Act fault = sym lacks.0 ∙ is in absurd cc
-no_act_fault target old (Err why) new fault X (inr (step, commit, fails, leads, same, falls, outlined)) = λ is. let no_fault : refusal.DiskFault step ≡ refusal.Act fault = sym fails ∙ is in absurd cc
+no_act_fault target old (Err why) new fault X (inr (step, commit, fails, some, leads, same, falls, outlined)) = λ is. let no_fault : refusal.DiskFault step ≡ refusal.Act fault = sym fails ∙ is in absurd cc
 
 -- a fault of an action is none of the disk
 pub act_no_disk : (basis : Basis) (rows : List Row) (action : Action) (before now : ℕ) (why : Refusal) → (why ≡ refusal.NoMemory) ⊎ IsFault basis rows action before now why → (step : DiskStep) → why ≡ refusal.DiskFault step → ⊥

@@ -1,5 +1,5 @@
 -- A disk that is opened: what commits lead to is backed by the journal that was read, and what stays is still backed.
-use Rattle.std.proofs.Common.{◌≡◌, ◌⊎◌, inl, inr, ℕ, ◌+◌, Bool, false, IsTrue, List, [], ◌∷◌, ◌++◌, length, map, Option, Some, None, Ok, Err, refl, sym, ap, subst, ◌∙◌, arith, length-append}
+use Rattle.std.proofs.Common.{◌≡◌, inl, inr, ℕ, ◌+◌, Bool, false, IsTrue, List, [], ◌∷◌, ◌++◌, length, map, Option, Some, None, Ok, Err, refl, sym, ap, subst, ◌∙◌, arith, length-append}
 use Rattle.std.specs.List.{AllByRecursion}
 use Rattle.std.specs.Option.{is_none}
 use Rattle.braid_run.specs.Soundness.{AreSound, Criteria, IsSound}
@@ -18,10 +18,9 @@ use Rattle.journal.specs.declared.journal.Journal.{Journal}
 use Rattle.outside.specs.Crashes.{LeavesOnly, MayLeave}
 use Rattle.outside.specs.Disk.{Content}
 use Rattle.outside.specs.declared.faults.DiskStep.{DiskStep}
-use Rattle.outside.proofs.Crashes.{weaker}
 use Rattle.policy_ast.specs.declared.policy.PlacedItem.{PlacedItem}
-use Rattle.replica.specs.Disks.{AreSoundFronts, IsTrusted, OpensAlike, OpensWhole, Sense, Survives}
-use Rattle.replica.specs.Fronts.{Admits, AnswersOpening, Front, Opens, OpensReading, behind_commit, behind_commits, front_of, no_front}
+use Rattle.replica.specs.Disks.{AreSoundFronts, IsTrusted, Sense, Survives}
+use Rattle.replica.specs.Fronts.{Admits, AnswersOpening, Front, Opening, Opens, OpensAs, OpensReading, behind_commit, behind_commits, front_of, no_front}
 use Rattle.replica.specs.Kept.{loose_of}
 use Rattle.replica.specs.declared.down.Down.{Down}
 use Rattle.replica.specs.working.Backing.{IsBacked, IsHeldBy, LeadTo, ReadsLoose}
@@ -126,16 +125,10 @@ module _ (criteria : Criteria) (reads : List ℕ) where
   answers_damaged items why is (inr (offset, same, damaged)) = subst (λ w. AnswersOpening criteria reads (Err w)) (sym same) (record { reading = Holds items; reads = is; opens = damaged })
 
 -- an image that reads as the disk did opens to the same
-pub opens_alike : ReadOnce → (criteria : Criteria) (reads image : List ℕ) (items : List (ℕ × Commit)) → ReadsAs criteria.digest reads (Holds items) → ReadsAs criteria.digest image (Holds items) → OpensAlike criteria reads image
-opens_alike once criteria reads image items was now = λ opening is.
+pub opens_alike : ReadOnce → (criteria : Criteria) (reads image : List ℕ) (items : List (ℕ × Commit)) → ReadsAs criteria.digest reads (Holds items) → ReadsAs criteria.digest image (Holds items) →
+    (opening : Opening) → OpensAs criteria reads opening → OpensAs criteria image opening
+opens_alike once criteria reads image items was now opening is =
     record { reading = Holds items; reads = now; opens = subst (λ r. OpensReading criteria r opening) (once criteria.digest reads is.reading (Holds items) is.reads was) is.opens }
-
-pub opens_whole : ReadOnce → (criteria : Criteria) (old new : Content) → LeavesOnly old new (WasOrReadsAlike criteria.digest old) → OpensWhole criteria old new
-opens_whole once criteria old new only = weaker old new (WasOrReadsAlike criteria.digest old) (λ image. MayLeave old image ⊎ OpensAlike criteria old.reads image) by only
-  where
-    by : (image : List ℕ) → WasOrReadsAlike criteria.digest old image → MayLeave old image ⊎ OpensAlike criteria old.reads image
-    by image (inl before) = inl before
-    by image (inr read) = inr (opens_alike once criteria old.reads image read.0 read.1 read.2)
 
 -- ---- an opening, as contracts say it
 

@@ -279,8 +279,7 @@ module _ {D : Type 0} (sense : Sense D) (faults : D → ℕ) (last_step : D → 
           all : (image : List ℕ) → WasOrReadsAlike digest (sense.content was.disk) image → OpensToOf good sense was image ⊎ OpensToOf good sense is image
           all image (inl before) = inl (survives_now sense faults last_step policy digest author survives opens good old backed trusted image before)
           all image (inr read) =
-              let alike = opens_alike once judged_by (sense.content was.disk).reads image read.0 read.1 read.2 in
-              inl (read_opens.0, read_opens.1, alike (Opens read_opens.0) read_opens.2)
+              inl (read_opens.0, read_opens.1, opens_alike once judged_by (sense.content was.disk).reads image read.0 read.1 read.2 (Opens read_opens.0) read_opens.2)
 
 -- all that contracts say of a restart
 pub record Restarted {D : Type 0} (sense : Sense D) (faults : D → ℕ) (last_step : D → Option DiskStep) (good : List ℕ → List ℕ → List ℕ → Bool) (old : Kept D) (result : Result ℕ Refusal) (new : Kept D) : Type 0 where

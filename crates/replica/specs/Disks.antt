@@ -1,6 +1,6 @@
 -- What a crash may leave of a replica's disk: at each moment its image opens to what the replica was before or is after.
 use Rattle.std.specs.Prelude.{◌≡◌, ◌⊎◌, ℕ, ◌≤◌, Bool, IsTrue, List, Option, Some, Result, Err}
-use Rattle.braid_run.specs.Soundness.{AreSound, Criteria}
+use Rattle.braid_run.specs.Soundness.{AreSound}
 use Rattle.journal.specs.Images.{IsBegun}
 use Rattle.journal.specs.Journal.{WasOrReadsAlike}
 use Rattle.journal.specs.declared.commit.Commit.{Commit}

@@ -1,4 +1,5 @@
 ghost use Rattle.std.specs.Prelude.{◌≡◌, ◌+◌, ◌≤◌, ℕ, Bool, List, None, Err, Ok, IfErr, IfOk, IsTrue, OnOk, false, length, true};
+ghost use Rattle.journal.specs.Images.{IsBegun};
 ghost use Rattle.outside.specs.Causes.{Rose};
 ghost use Rattle.outside.specs.Envelope.{author_id};
 ghost use Rattle.policy_rules.specs.WellTyped.{IsWellTyped};
@@ -338,6 +339,7 @@ impl<R: Runner, G: Graph, F: FactBase, D: Disk> Replica<R, G, F, D> {
         ensures step { Restarts self.old result self.new }
         ensures opens { IsTrue D.tells → AnswersOpening (criteria_of E.good self.old) (D.content self.old.disk).reads (restart_opens result self.new) }
         ensures stays { IsTrusted E.good (record { tells = D.tells; content = D.content; honest = D.honest }) self.old → StaysAtRestart self.old result self.new }
+        ensures begun { IsTrue D.tells → IsBegun (D.content self.old.disk).reads → (D.content self.new.disk).reads ≡ (D.content self.old.disk).reads }
         ensures sound { AreSoundFronts E.good self.old → AreSoundFronts E.good self.new }
         ensures crash { IsTrusted E.good (record { tells = D.tells; content = D.content; honest = D.honest }) self.old
             → Withstands E.good (record { tells = D.tells; content = D.content; honest = D.honest }) self.old self.new }

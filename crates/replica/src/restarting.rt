@@ -1,6 +1,8 @@
 //! A disk that is opened again.
 
-ghost use Rattle.std.specs.Prelude.{◌≡◌, Some};
+ghost use Rattle.std.specs.Prelude.{◌≡◌, Some, IsTrue};
+ghost use Rattle.journal.specs.Calls.{journal_disk};
+ghost use Rattle.journal.specs.Images.{IsBegun};
 ghost use Rattle.replica.specs.Kept.{loose_of};
 ghost use Rattle.replica.specs.working.Backing.{IsBacked};
 ghost use Rattle.replica.specs.working.Reopenings.{Reopens, fallen, refused_opening};
@@ -56,6 +58,7 @@ pub fn restart_on<R: Runner, G: Graph, F: FactBase, D: Disk, E: Envelope>(
     env: &E,
 ) -> Result<usize, Refusal>
     requires backed { IsBacked (record { tells = D.tells; content = D.content; honest = D.honest }) digest.now state.old.held down.old journal.old }
+    ensures begun { IsTrue D.tells → IsBegun (D.content (journal_disk journal.old)).reads → (D.content (journal_disk journal.new)).reads ≡ (D.content (journal_disk journal.old)).reads }
     ensures reopens { Reopens (record { policy = R.rules runner.now; digest = digest.now; good = E.good }) (record { tells = D.tells; content = D.content; honest = D.honest }) D.faults D.last_step
         (record { held = state.old.held; down = down.old; journal = journal.old }) result (record { held = state.new.held; down = down.new; journal = journal.new }) }
 {

@@ -15,6 +15,7 @@ use Rattle.outside.specs.declared.faults.DiskStep.{DiskStep}
 use Rattle.replica.specs.Disks.{FailsWithDisk, Sense}
 use Rattle.replica.specs.Fronts.{OpensAs, Opens, behind_commit, behind_commits, front_of, no_front}
 use Rattle.replica.specs.Kept.{IsReplica, loose_of}
+use Rattle.replica.specs.Steps.{IsChange}
 use Rattle.replica.specs.declared.down.Down.{Down}
 use Rattle.replica.specs.declared.refusal.Refusal.{Refusal}
 use Rattle.replica.specs.declared.refusal.Refusal.TheVariants as refusal
@@ -53,13 +54,13 @@ module _ {D : Type 0} where
       ((why ≡ refusal.NoMemory) × (new_down ≡ down) × (new ≡ old))
       ⊎ ((step : DiskStep) × (why ≡ refusal.DiskFault step) × (new_down ≡ Some (record { step = step; loose = Some commit })) × (journal_outline new ≡ journal_outline old))
 
-  -- It holds the target, and is up; or memory lacked, and all is as before; or the disk failed at the commit that leads to the target, and the replica is
-  -- down with that commit loose.
+  -- It holds the target, and is up, and where the target has the front that was held the disk is as before; or memory lacked, and all is as before; or the
+  -- disk failed at the commit that leads to the target, which changes something, and the replica is down with that commit loose.
   abbrev pub EndsCommitting : {T : Type 0} → Held → Parts D → Result T Refusal → Parts D → Type 0
-  EndsCommitting target old (Ok it) new = (new.held ≡ target) × (new.down ≡ None)
+  EndsCommitting target old (Ok it) new = (new.held ≡ target) × (new.down ≡ None) × (front_of target ≡ front_of old.held → journal_disk new.journal ≡ journal_disk old.journal)
   EndsCommitting target old (Err why) new =
       ((why ≡ refusal.NoMemory) × (new ≡ old))
-      ⊎ ((step : DiskStep) × (commit : Commit) × (why ≡ refusal.DiskFault step) × (front_of target ≡ behind_commit (front_of old.held) commit) × (new.held ≡ old.held)
+      ⊎ ((step : DiskStep) × (commit : Commit) × (why ≡ refusal.DiskFault step) × IsChange (front_of old.held) commit × (front_of target ≡ behind_commit (front_of old.held) commit) × (new.held ≡ old.held)
       × (new.down ≡ Some (record { step = step; loose = Some commit })) × (journal_outline new.journal ≡ journal_outline old.journal))
 
 module _ {D : Type 0} (sense : Sense D) (faults : D → ℕ) (last_step : D → Option DiskStep) where

@@ -14,6 +14,7 @@ returns-in-Err g c =
     let criteria : Criteria = record { policy = g.R.Runner.rules c.args.runner.now; digest = c.args.digest.now; good = g.E.Envelope.good } in
     let old : Parts _ = record { held = c.args.state.now.held; down = c.args.down.now; journal = c.args.journal.now } in
     record {
+      begun = c.reopen.ensures.begun;
       reopens =
           reopens_refused sense g.D.Disk.faults g.D.Disk.last_step criteria c.images_read_as_one_thing.ensures c.journals_open.ensures.survives old c.reopen.new.self (g.met.D.Disk.reads_image (journal_disk c.args.journal.now))
           c.reopen.ensures.any_moment c.requires.backed c.reopen.ensures.stays c.reopen.ensures.same c.in-Err.ensures.cause.honesty c.in-Err.fault c.refused.new.down c.refused.result c.refused.ensures.why c.refused.ensures.down
@@ -29,6 +30,7 @@ returns-in-Ok-opened_state g c =
     let led : IsLedTo criteria items c.in-Ok-opened_state.opened.held = subst (λ l. IsLedTo criteria l c.in-Ok-opened_state.opened.held) c.as_slice.ensures.value c.in-Ok-opened_state.ensures.led in
     let outlined = c.adopt.ensures.outline in
     record {
+      begun = λ told begins. ap (λ d. (g.D.Disk.content d).reads) c.adopt.ensures.disk ∙ c.reopen.ensures.begun told begins;
       reopens =
           reopens_led sense g.D.Disk.faults g.D.Disk.last_step criteria c.images_read_as_one_thing.ensures c.journals_open.ensures.survives old c.reopen.new.self (g.met.D.Disk.reads_image (journal_disk c.args.journal.now))
           c.reopen.ensures.any_moment items c.in-Ok-opened_state.opened.held c.adopt.new.self c.len.result c.adopt.ensures.disk (subst (λ o. AreOf o items) (sym outlined) c.in-Ok.ensures.listed) c.adopt.ensures.works led
@@ -48,6 +50,7 @@ returns g c =
     let cause = c.in-Err-opened_state.fault in
     let again = c.refused-in-Err-opened_state in
     record {
+      begun = c.reopen.ensures.begun;
       reopens =
           reopens_damaged sense g.D.Disk.faults g.D.Disk.last_step criteria c.images_read_as_one_thing.ensures c.journals_open.ensures.survives old c.reopen.new.self (g.met.D.Disk.reads_image (journal_disk c.args.journal.now))
           c.reopen.ensures.any_moment c.requires.backed c.reopen.ensures.stays c.reopen.ensures.same c.in-Ok.ensures.cause.honesty items cause again.new.down again.result

@@ -1,10 +1,9 @@
 use Rattle.std.proofs.Common.{IsTrue, sym, subst}
 use Rattle.braid_run.specs.Soundness.{Criteria}
-use Rattle.journal.specs.Calls.{journal_disk}
 use Rattle.journal.specs.declared.journal.Journal.{Journal}
 use Rattle.replica.specs.Disks.{OpensWhole, Sense}
 use Rattle.replica.specs.working.Openings.{IsLedTo, IsRefusedAt}
-use Rattle.replica.proofs.OpenedFacts.{answers_damaged, answers_led, answers_refused, backed_opened, opened_trusted, opens_whole}
+use Rattle.replica.proofs.OpenedFacts.{answers_damaged, answers_led, answers_refused, backed_opened, opened_trusted}
 use Rattle.replica.proofs.replica.Replica.open_on.Goals as goal
 
 pub returns-in-Err-clause-opens : goal.returns-in-Err-clause-opens
@@ -14,8 +13,7 @@ returns-in-Err-clause-opens g c = λ told.
 
 pub returns-in-Err-clause-crash : goal.returns-in-Err-clause-crash
 returns-in-Err-clause-crash g c = λ told honest.
-    let criteria : Criteria = record { policy = g.R.Runner.rules c.args.runner; digest = c.args.digest.now; good = g.E.Envelope.good } in
-    opens_whole c.images_read_as_one_thing.ensures criteria (g.D.Disk.content c.args.disk) (g.D.Disk.content c.in-Err.disk) (c.in-Err.ensures.any_moment told honest)
+    record { moments = c.in-Err.ensures.any_moment told honest; kept = c.in-Err.ensures.begun told }
 
 pub invariant_of-result : goal.invariant_of-result
 invariant_of-result g c =
@@ -37,8 +35,7 @@ returns-in-Ok-opened_state-clause-opens g c = λ told.
 
 pub returns-in-Ok-opened_state-clause-crash : goal.returns-in-Ok-opened_state-clause-crash
 returns-in-Ok-opened_state-clause-crash g c = λ told honest.
-    let criteria : Criteria = record { policy = g.R.Runner.rules c.args.runner; digest = c.args.digest.now; good = g.E.Envelope.good } in
-    opens_whole c.images_read_as_one_thing.ensures criteria (g.D.Disk.content c.args.disk) (g.D.Disk.content (journal_disk c.in-Ok.found.0)) (c.in-Ok.ensures.any_moment told honest)
+    record { moments = c.in-Ok.ensures.any_moment told honest; kept = c.in-Ok.ensures.begun told }
 
 pub returns-in-Ok-opened_state-clause-trusted : goal.returns-in-Ok-opened_state-clause-trusted
 returns-in-Ok-opened_state-clause-trusted g c = λ told honest.
@@ -61,6 +58,5 @@ returns-clause-opens g c = λ told.
 
 pub returns-clause-crash : goal.returns-clause-crash
 returns-clause-crash g c = λ told honest.
-    let criteria : Criteria = record { policy = g.R.Runner.rules c.args.runner; digest = c.args.digest.now; good = g.E.Envelope.good } in
-    subst (λ d. OpensWhole criteria (g.D.Disk.content c.args.disk) (g.D.Disk.content d)) (sym c.into_disk.ensures)
-    (opens_whole c.images_read_as_one_thing.ensures criteria (g.D.Disk.content c.args.disk) (g.D.Disk.content (journal_disk c.in-Ok.found.0)) (c.in-Ok.ensures.any_moment told honest))
+    subst (λ d. OpensWhole c.args.digest.now (g.D.Disk.content c.args.disk) (g.D.Disk.content d)) (sym c.into_disk.ensures)
+    (record { moments = c.in-Ok.ensures.any_moment told honest; kept = c.in-Ok.ensures.begun told })

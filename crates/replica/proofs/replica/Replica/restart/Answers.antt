@@ -1,5 +1,8 @@
+use Rattle.std.proofs.Common.{◌≡◌, IsTrue, subst}
 use Rattle.journal.specs.Calls.{journal_disk}
+use Rattle.journal.specs.Images.{IsBegun}
 use Rattle.replica.specs.Disks.{Sense}
+use Rattle.replica.specs.Kept.{Kept}
 use Rattle.replica.proofs.ReopenFacts.{restart_keeps, restarted}
 use Rattle.replica.proofs.replica.Replica.restart.Goals as goal
 
@@ -34,6 +37,10 @@ returns-clause-stays g c =
     (restarted sense g.D.Disk.faults g.D.Disk.last_step (g.R.Runner.rules it.runner) it.digest it.author g.E.Envelope.good (record { held = it.state.held; down = it.down; journal = it.journal }) c.restart_on.result
     (record { held = c.restart_on.new.state.held; down = c.restart_on.new.down; journal = c.restart_on.new.journal }) c.images_read_as_one_thing.ensures c.journals_open.ensures.survives c.journals_open.ensures.opens
     (c.lists_have_one_run.ensures.one (g.R.Runner.rules it.runner)) (g.met.D.Disk.reads_image (journal_disk it.journal)) c.self.invariant.0 c.self.invariant.1 c.restart_on.ensures.reopens c.args.self.now c.self.view_is).stays
+
+pub returns-clause-begun : goal.returns-clause-begun
+returns-clause-begun g c =
+    subst (λ (k : Kept _). IsTrue g.D.Disk.tells → IsBegun (g.D.Disk.content k.disk).reads → (g.D.Disk.content (journal_disk c.restart_on.new.journal)).reads ≡ (g.D.Disk.content k.disk).reads) c.self.view_is c.restart_on.ensures.begun
 
 pub returns-clause-sound : goal.returns-clause-sound
 returns-clause-sound g c =
