@@ -97,14 +97,7 @@ fn assert_row_over<R: Abort, E: Envelope>(
         sink: MemorySink::new(alloc, failing(alloc, row.failing_write)?),
         most: row.taken,
     };
-    let status = run_command(
-        alloc,
-        words.as_slice(),
-        &mut files,
-        disks,
-        env,
-        &mut out,
-    );
+    let status = run_command(alloc, words.as_slice(), &mut files, disks, env, &mut out);
     assert!(rt;
         status.number() == row.status,
         "{}: status {}",
@@ -159,12 +152,7 @@ fn assert_row_on<R: Abort>(
 }
 
 // So many bytes of a journal, of which the one at the place is 7.
-fn front_of(
-    alloc: Global,
-    journal: &[u8],
-    length: usize,
-    seven: usize,
-) -> Result<Bytes, NoMemory> {
+fn front_of(alloc: Global, journal: &[u8], length: usize, seven: usize) -> Result<Bytes, NoMemory> {
     let mut front = Bytes::new(alloc);
     for (place, byte) in journal.iter().enumerate() {
         if place < length {
