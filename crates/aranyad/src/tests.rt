@@ -1,3 +1,4 @@
+// NOTE FROM THE FOUNDER (02:26): see /work/helpers/a/NOTE.md (remove this line)
 // Tables of runs of `run_command` on the objects in memory.
 ghost use Rattle.std.specs.Prelude.{◌≡◌, length};
 
@@ -20,6 +21,7 @@ mod value_rows;
 mod words;
 
 use crate::run_command::run_command;
+use crate::tests::journal_rows::Opened;
 use crate::tests::narrow_sink::NarrowSink;
 use crate::tests::numbering_envelope::NumberingEnvelope;
 use crate::tests::rows::{FIRST, Row};
@@ -173,17 +175,33 @@ fn is_first_journal(journal: &[u8]) -> bool {
     journal.len() == journal_rows::WHOLE
 }
 
+// Makes the runs of a row on fronts of the journal.
+fn assert_opened<R: Abort>(
+    rt: &R,
+    alloc: Global,
+    journal: &[u8],
+    opened: &Opened,
+) -> Result<(), NoMemory> {
+    for length in opened.from..opened.to {
+        let front = front_of(alloc, journal, length, opened.seven)?;
+        assert_row_on(rt, alloc, &opened.row, front, opened.failing_call)?;
+    }
+    Ok(())
+}
+
+fn assert_all_opened<R: Abort>(rt: &R, alloc: Global, journal: &[u8]) -> Result<(), NoMemory> {
+    for opened in &journal_rows::ROWS {
+        assert_opened(rt, alloc, journal, opened)?;
+    }
+    Ok(())
+}
+
 #[test]
 fn journals_are_kept_and_opened_again(rt: HostRuntime) -> Result<(), Fail> {
     let alloc = rt.alloc();
     let journal = assert_row_on(&rt, alloc, &FIRST, Bytes::new(alloc), 0)?;
     assert!(rt; is_first_journal(journal.as_slice()));
-    for opened in &journal_rows::ROWS {
-        for length in opened.from..opened.to {
-            let front = front_of(alloc, journal.as_slice(), length, opened.seven)?;
-            assert_row_on(&rt, alloc, &opened.row, front, opened.failing_call)?;
-        }
-    }
+    assert_all_opened(&rt, alloc, journal.as_slice())?;
     Ok(())
 }
 
