@@ -189,8 +189,13 @@ fn assert_opened<R: Abort>(
     Ok(())
 }
 
-fn assert_all_opened<R: Abort>(rt: &R, alloc: Global, journal: &[u8]) -> Result<(), NoMemory> {
-    for opened in &journal_rows::ROWS {
+fn assert_all_opened<R: Abort>(
+    rt: &R,
+    alloc: Global,
+    journal: &[u8],
+    rows: &[Opened],
+) -> Result<(), NoMemory> {
+    for opened in rows {
         assert_opened(rt, alloc, journal, opened)?;
     }
     Ok(())
@@ -201,7 +206,7 @@ fn journals_are_kept_and_opened_again(rt: HostRuntime) -> Result<(), Fail> {
     let alloc = rt.alloc();
     let journal = assert_row_on(&rt, alloc, &FIRST, Bytes::new(alloc), 0)?;
     assert!(rt; is_first_journal(journal.as_slice()));
-    assert_all_opened(&rt, alloc, journal.as_slice())?;
+    assert_all_opened(&rt, alloc, journal.as_slice(), &journal_rows::ROWS)?;
     Ok(())
 }
 
