@@ -1,9 +1,8 @@
 -- What a crash may leave of the disks of a world, from its opening to the end of its lines.
-use Rattle.std.proofs.Common.{◌≡◌, ◌⊎◌, ℕ, ◌≤◌, ◌||◌, cond, Bool, true, false, IsTrue, List, [], ◌∷◌, ◌++◌, find, length, map, Option, Some, None, Result, Ok, Err, option_map, refl, sym, ap, subst, ◌∙◌, inl, inr, ⊎_elim, arith, append_assoc, length-append}
+use Rattle.std.proofs.Common.{◌≡◌, ◌⊎◌, ℕ, ◌≤◌, ◌||◌, cond, Bool, true, false, IsTrue, List, [], ◌∷◌, ◌++◌, find, length, map, Some, None, option_map, refl, sym, ap, subst, ◌∙◌, inl, inr, ⊎_elim, arith, append_assoc, length-append}
 use Rattle.std.specs.List.{list_any}
 use Rattle.std.specs.Str.{bytes_eq}
 use Rattle.std.specs.Str.Lines.{lines}
-use Rattle.braid_run.specs.Soundness.{Criteria}
 use Rattle.journal.specs.declared.commit.Commit.{Commit}
 use Rattle.journal.specs.declared.fault.OpenFault.{OpenFault}
 use Rattle.outside.specs.Crashes.{IsLater, LeavesOnly, clock, moments}
@@ -11,7 +10,7 @@ use Rattle.outside.specs.Disk.{Content, IsImage}
 use Rattle.outside.proofs.Crashes.{no_calls, told_before}
 use Rattle.policy_ast.specs.declared.policy.PlacedItem.{PlacedItem}
 use Rattle.replica.specs.Calls.{IsRefusedJournal}
-use Rattle.replica.specs.Disks.{IsTrusted, OpensToOf, OpensWhole, Sense}
+use Rattle.replica.specs.Disks.{OpensToOf, Sense}
 use Rattle.replica.specs.Fronts.{OpensAs, Opens, front_of}
 use Rattle.replica.specs.Kept.{Kept, criteria_of, loose_of}
 use Rattle.script.specs.Scripts.{IsScript, nothing_yet}

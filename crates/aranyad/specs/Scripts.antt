@@ -87,6 +87,6 @@ module _ {D : Type 0} (sense : Sense D) (tags : Tags) where
     RunsOpened lines result texts left =
         (HaltsAtOnce result texts × OpenWhole sense tags.good policy digest disks left)
         ⊎ ((name : List ℕ) × (cause : OpenFault) × RefusesFirst sense tags.good policy digest (names_of lines) disks name cause × Says ending.JournalRefused (journal_text name cause) result texts
-            × OpenWhole sense tags.good policy digest disks left)
+        × OpenWhole sense tags.good policy digest disks left)
         ⊎ ((first : Site D) × (new : Site D) × IsOpenedOn sense tags.good policy digest (names_of lines) disks first × OpenWhole sense tags.good policy digest disks (disks_of first)
-            × AreSafe sense tags.good first.replicas × RunsLines tags first lines result texts new × LeavesDisks first lines new left)
+        × AreSafe sense tags.good first.replicas × RunsLines tags first lines result texts new × LeavesDisks first lines new left)

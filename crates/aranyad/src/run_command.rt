@@ -1,4 +1,4 @@
-ghost use Rattle.std.specs.Prelude.{◌≡◌, ◌≢◌, ℕ, None, Some, Ok, Err, IfSome, IsTrue, length};
+ghost use Rattle.std.specs.Prelude.{◌≡◌, None, Some, Ok, Err, IfSome, IsTrue, length};
 ghost use Rattle.std.specs.List.{AllByRecursion};
 ghost use Rattle.script_texts.specs.Modes as modes;
 ghost use Rattle.world.specs.Stops.{SomeRose};

@@ -1,6 +1,7 @@
+// NOTE FROM THE FOUNDER (02:26): see /work/helpers/a/NOTE.md (remove this line)
 //! The lines of a script, run in a world of the replicas that they declare.
 
-ghost use Rattle.std.specs.Prelude.{◌≡◌, ◌<◌, ◌≤◌, ℕ, All, List, Ok, Err, IfOk, IsTrue, length};
+ghost use Rattle.std.specs.Prelude.{◌≡◌, ◌<◌, ℕ, All, List, Ok, Err, IsTrue, length};
 ghost use Rattle.std.specs.List.{AllByRecursion};
 ghost use Rattle.policy_ast.specs.declared.policy.PlacedItem.{PlacedItem};
 ghost use Rattle.world.specs.Crashes.{AreSafe};
@@ -28,7 +29,6 @@ use policy_meaning::Runner;
 use policy_types::Checked;
 use script::Line;
 use std::alloc::Global;
-use std::marker::Brand;
 use std::mem;
 use std::sync::ledger::{Blank, Ledger};
 use world::{RunStop, World};
@@ -102,7 +102,9 @@ fn run_opened<R: Runner, G: Graph, F: FactBase, D: Disk, E: Envelope, K: Sink, L
     ensures disks { NoneFell D.faults disks.items result.1.items }
     ensures cause { LinesHalt (SomeRose D.faults disks.items result.1.items) (E.faults env.old) (E.faults env.new) (K.faults out.old) (K.faults out.new) result.0 }
 {
-    let mut world = match World::<R, G, F, D>::open_world(alloc, runners, names, digest, disks, env) {
+    let mut world = match World::<R, G, F, D>::open_world(
+        alloc, runners, names, digest, disks, env,
+    ) {
         Ok(world) => world,
         Err((stop, disks)) => return (end_stopped(alloc, stop, out), disks),
     };

@@ -1,8 +1,12 @@
+// NOTE FROM THE FOUNDER (02:26): see /work/helpers/a/NOTE.md (remove this line)
 // Tables of runs of `run_command` on the objects in memory.
+ghost use Rattle.std.specs.Prelude.{◌≡◌, length};
+
 mod checks;
 mod devices;
 mod documents;
 mod documents_of_rows;
+mod journal_rows;
 mod limits;
 mod long_session_rows;
 mod narrow_sink;
@@ -17,11 +21,12 @@ mod value_rows;
 mod words;
 
 use crate::run_command::run_command;
+use crate::tests::journal_rows::Opened;
 use crate::tests::narrow_sink::NarrowSink;
 use crate::tests::numbering_envelope::NumberingEnvelope;
 use crate::tests::rows::{FIRST, Row};
 use base_bytes::{Bytes, NoMemory, Text};
-use outside::{Envelope, ListEnvelope, MemoryFiles, MemorySink};
+use outside::{Envelope, ListEnvelope, MemoryDisk, MemoryFiles, MemorySink};
 use std::alloc::Global;
 use std::process::Abort;
 use std::test::*;
@@ -77,28 +82,24 @@ fn are_pieces(bytes: &[u8], pieces: &[&str]) -> bool {
     rest.is_empty()
 }
 
-// Makes the run of a row with this envelope, and asserts its status and all that it wrote.
-fn assert_row_sealed<R: Abort, E: Envelope>(
+// Makes the run of a row with this envelope over these disks, and asserts its status and all that it wrote.
+fn assert_row_over<R: Abort, E: Envelope>(
     rt: &R,
     alloc: Global,
     row: &Row,
     env: &mut E,
-) -> Result<(), NoMemory> {
+    disks: &mut Vec<MemoryDisk>,
+) -> Result<(), NoMemory>
+    requires { length disks.old.items ≡ 8 }
+    ensures { length disks.new.items ≡ 8 }
+{
     let words = row_words(alloc, row)?;
     let mut files = row_files(alloc, row)?;
-    let mut disks = crate::empty_disks(alloc)?;
     let mut out = NarrowSink {
         sink: MemorySink::new(alloc, failing(alloc, row.failing_write)?),
         most: row.taken,
     };
-    let status = run_command(
-        alloc,
-        words.as_slice(),
-        &mut files,
-        &mut disks,
-        env,
-        &mut out,
-    );
+    let status = run_command(alloc, words.as_slice(), &mut files, disks, env, &mut out);
     assert!(rt;
         status.number() == row.status,
         "{}: status {}",
@@ -113,6 +114,17 @@ fn assert_row_sealed<R: Abort, E: Envelope>(
     Ok(())
 }
 
+// The same over empty disks.
+fn assert_row_sealed<R: Abort, E: Envelope>(
+    rt: &R,
+    alloc: Global,
+    row: &Row,
+    env: &mut E,
+) -> Result<(), NoMemory> {
+    let mut disks = crate::empty_disks(alloc)?;
+    assert_row_over(rt, alloc, row, env, &mut disks)
+}
+
 // The same with an envelope whose seals fail as the row says.
 fn assert_row<R: Abort>(rt: &R, alloc: Global, row: &Row) -> Result<(), NoMemory> {
     let mut env = ListEnvelope::new(alloc, failing(alloc, row.failing_seal)?);
@@ -123,6 +135,86 @@ fn assert_rows<R: Abort>(rt: &R, alloc: Global, rows: &[Row]) -> Result<(), NoMe
     for row in rows {
         assert_row(rt, alloc, row)?;
     }
+    Ok(())
+}
+
+// The same where the first disk has these bytes, and fails at the call of this number. Answers the bytes that it has then.
+fn assert_row_on<R: Abort>(
+    rt: &R,
+    alloc: Global,
+    row: &Row,
+    bytes: Bytes,
+    failing_call: u64,
+) -> Result<Bytes, NoMemory> {
+    let mut disks = crate::empty_disks(alloc)?;
+    disks[0] = MemoryDisk::new(alloc, bytes, failing(alloc, failing_call)?);
+    let mut env = ListEnvelope::new(alloc, failing(alloc, row.failing_seal)?);
+    assert_row_over(rt, alloc, row, &mut env, &mut disks)?;
+    Bytes::from_slice(alloc, disks[0].bytes())
+}
+
+// So many bytes of a journal, of which the one at the place is 7.
+fn front_of(alloc: Global, journal: &[u8], length: usize, seven: usize) -> Result<Bytes, NoMemory> {
+    let mut front = Bytes::new(alloc);
+    for (place, byte) in journal.iter().enumerate() {
+        if place < length {
+            front.push(alloc, if place == seven { 7 } else { *byte })?;
+        }
+    }
+    Ok(front)
+}
+
+// Whether a journal has the length and the gates of the first example's.
+fn is_first_journal(journal: &[u8]) -> bool {
+    for (place, gate) in journal_rows::GATES {
+        match journal.get(place) {
+            Some(byte) if *byte == gate => {}
+            _ => return false,
+        }
+    }
+    journal.len() == journal_rows::WHOLE
+}
+
+// Makes the runs of a row on fronts of the journal.
+fn assert_opened<R: Abort>(
+    rt: &R,
+    alloc: Global,
+    journal: &[u8],
+    opened: &Opened,
+) -> Result<(), NoMemory> {
+    let row = Row {
+        name: opened.name,
+        policy: opened.policy,
+        script: opened.script,
+        status: opened.status,
+        text: opened.text,
+        ..FIRST
+    };
+    for length in opened.from..opened.to {
+        let front = front_of(alloc, journal, length, opened.seven)?;
+        assert_row_on(rt, alloc, &row, front, opened.failing_call)?;
+    }
+    Ok(())
+}
+
+fn assert_all_opened<R: Abort>(
+    rt: &R,
+    alloc: Global,
+    journal: &[u8],
+    rows: &[Opened],
+) -> Result<(), NoMemory> {
+    for opened in rows {
+        assert_opened(rt, alloc, journal, opened)?;
+    }
+    Ok(())
+}
+
+#[test]
+fn journals_are_kept_and_opened_again(rt: HostRuntime) -> Result<(), Fail> {
+    let alloc = rt.alloc();
+    let journal = assert_row_on(&rt, alloc, &FIRST, Bytes::new(alloc), 0)?;
+    assert!(rt; is_first_journal(journal.as_slice()));
+    assert_all_opened(&rt, alloc, journal.as_slice(), &journal_rows::ROWS)?;
     Ok(())
 }
 
@@ -167,6 +259,7 @@ fn policies_are_judged_without_a_script(rt: HostRuntime) -> Result<(), Fail> {
 fn scripts_run_or_are_refused(rt: HostRuntime) -> Result<(), Fail> {
     for rows in [
         scripts::ROWS.as_slice(),
+        words::STORES.as_slice(),
         team_rows::ROWS.as_slice(),
         order_rows::ROWS.as_slice(),
         session_rows::ROWS.as_slice(),

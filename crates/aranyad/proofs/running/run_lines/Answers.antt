@@ -1,4 +1,4 @@
-use Rattle.std.proofs.Common.{◌≡◌, ◌++◌, Err, [], arith, ap, drop, refl, subst, ◌∙◌}
+use Rattle.std.proofs.Common.{◌≡◌, ◌++◌, Err, [], arith, ap, drop, subst, ◌∙◌}
 use Rattle.std.proofs.lemmas.List.{drop_all}
 use Rattle.replica.specs.Disks.{Sense}
 use Rattle.world.specs.Lines.{Tags}
@@ -98,9 +98,11 @@ loop-line-preserved g c =
           let so_far = subst (λ l. SoFar tags c.args.world.now c.args.lines.now (g.K.Sink.written c.args.out.now) l c.loop-line.world (g.K.Sink.written c.loop-line.out)) here at.0 in
           let may = may_be_run c.loop-line.world c.line-item.result _ (subst (FollowIn c.loop-line.world) here c.loop-line.invariant.follow) in
           let line = c.in-Ok.ensures.line (steady sense g.E.Envelope.good c.loop-line.world c.line-item.result at.1.safe may) in
-          let stands = stands_on sense tags c.args.world.now c.args.lines.now c.line-item.result _ so_far.texts c.loop-line.world c.step.new.self so_far.up_to at.1 c.in-Ok.ensures.names c.in-Ok.ensures.spare c.in-Ok.ensures.crash in
-          (line_printed tags c.args.world.now c.args.lines.now (g.K.Sink.written c.args.out.now) c.line-item.result _ line.0 c.loop-line.world c.step.new.self _ _ so_far line.1
-          (printed_as _ line.0 _ _ (c.as_slice.ensures ∙ line.2 ∙ ap (λ l. l ++ line.0) c.new-text.ensures) c.in-Ok-write_all.ensures.written), stands);
+          let stands = stands_on sense tags c.args.world.now c.args.lines.now c.line-item.result _ so_far.texts c.loop-line.world c.step.new.self so_far.up_to at.1 c.in-Ok.ensures.names c.in-Ok.ensures.spare c.in-Ok.ensures.crash in (
+            line_printed tags c.args.world.now c.args.lines.now (g.K.Sink.written c.args.out.now) c.line-item.result _ line.0 c.loop-line.world c.step.new.self _ _ so_far line.1
+                (printed_as _ line.0 _ _ (c.as_slice.ensures ∙ line.2 ∙ ap (λ l. l ++ line.0) c.new-text.ensures) c.in-Ok-write_all.ensures.written),
+            stands,
+          );
       disks = none_fell_from g.D.Disk.faults (disks_of c.args.world.now) (disks_of c.loop-line.world) (disks_of c.step.new.self) c.loop-line.invariant.disks c.in-Ok.ensures.disks;
       later_seals = omega (arith, c.loop-line.invariant.later_seals, c.in-Ok.ensures.later);
       later_writes = omega (arith, c.loop-line.invariant.later_writes, c.in-Ok-write_all.ensures.cause.later);
