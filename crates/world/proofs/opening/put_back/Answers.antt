@@ -1,5 +1,4 @@
-use Rattle.std.proofs.Common.{rules}
 use Rattle.world.proofs.opening.put_back.Goals as goal
 
 pub loop-one-preserved : goal.loop-one-preserved
-loop-one-preserved g c = record { whole = ?; room = ? }
+loop-one-preserved g c = record { whole = c.in-Some.ensures.rest; room = c.in-Some.ensures.value }
