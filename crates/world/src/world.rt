@@ -6,7 +6,7 @@ ghost use Rattle.script.specs.Scripts.{with_line};
 ghost use Rattle.world.specs.Lines.{Tags, may_run};
 ghost use Rattle.world.specs.Crashes.{AreSafe, OpenAtEachMoment, OpenWhole, OpensWorld, opened_disks};
 ghost use Rattle.world.specs.Stops.{Acts, HasCause, IsFront, IsSteady, NoneFell, RefusesJournal, Steps as IsStepOf};
-ghost use Rattle.world.specs.Worlds.{AreUp, declared, disks_of};
+ghost use Rattle.world.specs.Worlds.{AreUp, declared, disks_of, with_message};
 ghost use Rattle.world.specs.declared.stop.RunStop.TheVariants as stop;
 ghost use Rattle.world.specs.working.Kinds.{Keeping, is_changing, is_making, is_showing};
 ghost use Rattle.world.specs.working.Passing.{RunsOn, StepsOn};
@@ -16,7 +16,7 @@ use crate::opening::{open_all, put_back};
 use crate::running::{changing_line, is_making, is_showing, said_line, shown_line};
 use crate::said::Said;
 use crate::stop::RunStop;
-use base_bytes::{Bytes, Id, Steps, Text};
+use base_bytes::{Bytes, Id, NoMemory, Steps, Text};
 use command::Graph;
 use fact_store::FactBase;
 use outside::{Disk, Envelope};
@@ -49,6 +49,15 @@ impl<R: Runner, G: Graph, F: FactBase, D: Disk> Model for World<R, G, F, D> {
     ghost view = { λ w. record { replicas = w.replicas.items; messages = w.messages.items; spare = w.spare.items } };
 
     ghost invariant = { λ w. length w.replicas.items + length w.spare.items ≤ vec_capacity w.spare };
+}
+
+/// Puts a message behind the others, or none under the next number.
+fn put_message(messages: &mut Vec<Option<Bytes>>, message: Option<Bytes>) -> Result<(), NoMemory>
+    ensures put { OnOk result (messages.new.items ≡ with_message messages.old.items message) }
+    ensures same { OnErr result (messages.new.items ≡ messages.old.items) }
+{
+    messages.push(message)?;
+    Ok(())
 }
 
 impl<R: Runner, G: Graph, F: FactBase, D: Disk> World<R, G, F, D> {
@@ -93,10 +102,9 @@ impl<R: Runner, G: Graph, F: FactBase, D: Disk> World<R, G, F, D> {
     fn keep(&mut self, said: Said) -> Result<Bytes, RunStop>
         ensures { Keeping self.old said result self.new }
     {
-        match self.messages.push(said.message) {
-            Ok(()) => Ok(said.text),
-            Err(_) => Err(RunStop::NoMemory),
-        }
+        let Said { text, message } = said;
+        put_message(&mut self.messages, message)?;
+        Ok(text)
     }
 
     /// Runs a line that makes a message.
