@@ -49,6 +49,15 @@ disks_more (x ∷ xs) r news = ap (λ ds. x.kept.disk ∷ ds) (disks_more xs r n
 none_fall : {D : Type 0} (faults : D → ℕ) (disks : List D) → NoneFell faults disks disks
 none_fall faults disks = pair_same (λ d e. faults d ≤ faults e) (λ d. omega arith) disks
 
+-- ---- disks that are handed back
+
+module _ {D : Type 0} (before after : List (Named D)) (one : Named D) (disks grown : List D) (disk : D) (popped : before ≡ after ++ one ∷ []) (own : disk ≡ one.kept.disk) (put : grown ≡ disk ∷ disks) where
+  pub handed_on : (all : List D) → map (λ (r : Named D). r.kept.disk) before ++ disks ≡ all → map (λ (r : Named D). r.kept.disk) after ++ grown ≡ all
+  handed_on all whole =
+      ap (λ ds. map (λ (r : Named D). r.kept.disk) after ++ ds) (put ∙ ap (λ d. d ∷ disks) own) ∙ disks_more after one disks ∙ sym (ap (λ (rs : List (Named D)). map (λ (r : Named D). r.kept.disk) rs ++ disks) popped) ∙ whole
+
+  pub room_on : (room more : ℕ) → room ≤ more → length before + length disks ≤ room → length after + length grown ≤ more
+  room_on room more up fits = omega (arith, up, fits, ap length popped, ap length put, length-append after (one ∷ []))
 
 module _ {D : Type 0} (sense : Sense D) (good : List ℕ → List ℕ → List ℕ → Bool) (faults : D → ℕ) (policy : List PlacedItem) (digest : List ℕ) where
   -- ---- disks that stay

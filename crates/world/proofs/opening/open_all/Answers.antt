@@ -35,11 +35,11 @@ pub returns-in-Err-open_one : goal.returns-in-Err-open_one
 returns-in-Err-open_one g c = record {
   opens = opens_no_more (record { tells = g.D.Disk.tells; content = g.D.Disk.content; honest = g.D.Disk.honest }) g.E.Envelope.good g.D.Disk.faults c.args.digest.now g.R.Runner.rules c.args.runners.items c.args.names.now c.args.disks.items
       (vec_capacity c.loop-name.replicas) (vec_capacity c.loop-name.spare) c.loop-name.replicas.items c.loop-name.runners.items c.remove-runner.new.self.items c.remove-runner.result c.loop-name.name-index c.name-item.result c.loop-name.spare.items c.remove-disk.new.self.items c.remove-disk.result
-    c.loop-name-test.true c.name-item.is c.remove-runner.ensures.value c.remove-runner.ensures.items c.remove-disk.ensures.value c.remove-disk.ensures.items c.loop-name.invariant
+      c.loop-name-test.true c.name-item.is c.remove-runner.ensures.value c.remove-runner.ensures.items c.remove-disk.ensures.value c.remove-disk.ensures.items c.loop-name.invariant
       c.in-Err-open_one.stop c.in-Err-open_one.disk c.put_back.result.items c.in-Err-open_one.ensures.opens (c.put_back.ensures ∙ ap (λ ds. map (λ r. r.kept.disk) c.loop-name.replicas.items ++ ds) c.put_first.ensures.items);
   counts = counts_stop (record { tells = g.D.Disk.tells; content = g.D.Disk.content; honest = g.D.Disk.honest }) g.E.Envelope.good g.D.Disk.faults c.args.digest.now g.R.Runner.rules c.args.runners.items c.args.names.now c.args.disks.items
       (vec_capacity c.loop-name.replicas) (vec_capacity c.loop-name.spare) c.loop-name.replicas.items c.loop-name.runners.items c.remove-runner.new.self.items c.remove-runner.result c.loop-name.name-index c.name-item.result c.loop-name.spare.items c.remove-disk.new.self.items c.remove-disk.result
-    c.loop-name-test.true c.name-item.is c.remove-runner.ensures.value c.remove-runner.ensures.items c.remove-disk.ensures.value c.remove-disk.ensures.items c.loop-name.invariant
+      c.loop-name-test.true c.name-item.is c.remove-runner.ensures.value c.remove-runner.ensures.items c.remove-disk.ensures.value c.remove-disk.ensures.items c.loop-name.invariant
       c.in-Err-open_one.stop c.in-Err-open_one.disk c.put_back.result.items c.in-Err-open_one.ensures.opens (c.put_back.ensures ∙ ap (λ ds. map (λ r. r.kept.disk) c.loop-name.replicas.items ++ ds) c.put_first.ensures.items);
   room = tt;
 }
