@@ -100,7 +100,7 @@ module _ {D : Type 0} (sense : Sense D) (good : List ℕ → List ℕ → List �
         handles sense good reached faults sealed old name reply new up (inl refl)
         (weathers_step sense good faults reached sealed (λ kept. IsActionOf kept good told action t u) (λ kept. IsFault (basis_of kept good told) kept.held.rows action t u) old name reply new up (inl refl)
         (λ before failed why is because.
-            fault_caused sealed failed (basis_of before good told) before.held.rows action t u why because (subst (λ r. IfErr r (λ w. w ≡ refusal.Act fault.SealFault → sealed)) is rose))
+        fault_caused sealed failed (basis_of before good told) before.held.rows action t u why because (subst (λ r. IfErr r (λ w. w ≡ refusal.Act fault.SealFault → sealed)) is rose))
         (λ before r held is own given. inr (inl (_, (Ok r, (t, u), (before, record before { held = held; down = None }, is, (own, (held, given, record { same = refl })), refl), refl)))) changes)
         NoJournal (published_line verb name reply) result (λ fell. ap (published_line verb name) fell.1) words
 

@@ -171,10 +171,10 @@ module _ {D : Type 0} (sense : Sense D) (good : List ℕ → List ℕ → List �
     fares_still old name before is up there = record {
       later = omega arith;
       crash = λ safe. (
-          safe,
-          no_calls (sense.content before.disk) (λ image. (f : Front) × Reaches good reached old name before f × OpensAs (criteria_of good before) image (Opens f))
-              (λ image may. let o = safe.1 image may in (o.0, reaches_same reached old name before o.0 is there (open_front before o.0 up o.1), o.2)),
-        );
+        safe,
+        no_calls (sense.content before.disk) (λ image. (f : Front) × Reaches good reached old name before f × OpensAs (criteria_of good before) image (Opens f))
+            (λ image may. let o = safe.1 image may in (o.0, reaches_same reached old name before o.0 is there (open_front before o.0 up o.1), o.2)),
+      );
     }
 
     pub weathers_step : {T : Type 0} (sealed : Type 0) (gives : Kept D → T → Held → Type 0) (refuses : Kept D → Refusal → Type 0) (old : List (Named D)) (name : Bytes) (reply : Result T Refusal) (new : List (Named D))
@@ -261,6 +261,7 @@ module _ {D : Type 0} (sense : Sense D) (good : List ℕ → List ℕ → List �
         where
           P : Bytes → List ℕ → Type 0
           P = λ a image. (replicas : List (Named D)) × reached replicas × OpensIn sense good replicas a image
+
           to : (a image : List ℕ) → ((after : Kept D) → kept_of (with_kept old name after) a ≡ Some after) → ((f : Front) × Reaches good reached old name w.before f × OpensAs (criteria_of good w.before) image (Opens f)) → P a image
           to a image then (f, reaches, opens) = (
             with_kept old name reaches.kept,
@@ -271,6 +272,7 @@ module _ {D : Type 0} (sense : Sense D) (good : List ℕ → List ℕ → List �
               subst (λ f. OpensAs (criteria_of good reaches.kept) image (Opens f)) (sym reaches.holds) (subst (λ c. OpensAs c image (Opens f)) (sym reaches.judged) opens),
             ),
           )
+
           by : (a : Bytes) (before after : Kept D) → kept_of old a ≡ Some before → kept_of (with_kept old name w.after) a ≡ Some after
               → ((after : Kept D) → kept_of (with_kept old name after) a ≡ kept_of old a) ⊎ ((kept_of old a ≡ Some w.before) × ((after : Kept D) → kept_of (with_kept old name after) a ≡ Some after))
               → LeavesOnly (sense.content before.disk) (sense.content after.disk) (P a)
@@ -288,6 +290,7 @@ module _ {D : Type 0} (sense : Sense D) (good : List ℕ → List ℕ → List �
         where
           no_line : ◌≡◌ {A = Option Bytes} None (Some text) → ⊥
           no_line e = absurd cc
+
           by : (w.after.down ≡ None) ⊎ IsDiskFault reply → AreUp new
           by (inl is) = subst AreUp (sym w.set) (stay_up old name w.after up is)
           by (inr fell) = absurd (no_line (sym (silent fell) ∙ words))
@@ -322,6 +325,7 @@ module _ {D : Type 0} (sense : Sense D) (good : List ℕ → List ℕ → List �
         all_up : (r : Result T RunStop) → OnOk r (AreUp old)
         all_up (Ok x) = up
         all_up (Err s) = tt
+
         none_caused : (r : Result T RunStop) → IfErr r (λ s. s ≡ stop.NoMemory) → IfErr r (IsStopFor sealed (SomeRose faults (map (λ r. r.kept.disk) old) (map (λ r. r.kept.disk) old)) refused)
         none_caused (Ok x) is = tt
         none_caused (Err s) is = subst (IsStopFor sealed (SomeRose faults (map (λ r. r.kept.disk) old) (map (λ r. r.kept.disk) old)) refused) (sym is) tt

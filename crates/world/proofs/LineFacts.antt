@@ -145,7 +145,6 @@ module _ {D : Type 0} (tags : Tags) where
   runs_count old (line.Take a n) text new (runs, rest) = ap length rest.0
   runs_count old (line.Restart a) text new (runs, rest) = ap length rest.0
 
-
   -- ---- a line, whatever it answers
 
   module _ (sense : Sense D) (faults : D → ℕ) (before now : ℕ) where
