@@ -5,7 +5,7 @@ use Rattle.std.specs.Str.{bytes_eq}
 use Rattle.std.proofs.lemmas.List.{map-append}
 use Rattle.std.proofs.lemmas.List.Elements.{All-head, All-tail}
 use Rattle.std.proofs.lemmas.Option.{same_Some}
-use Rattle.braid_run.specs.Soundness.{Criteria}
+use Rattle.journal.specs.Journal.{WasOrReadsAlike}
 use Rattle.journal.specs.declared.fault.OpenFault.{OpenFault}
 use Rattle.outside.specs.Causes.{Rose}
 use Rattle.outside.specs.Disk.{Content}
@@ -71,8 +71,8 @@ no_rest xs (r ∷ rest) none = absurd (omega (arith, none))
 -- ---- disks
 
 -- a disk that no one calls
-pub opens_still : (judge : Criteria) (content : Content) → OpensWhole judge content content
-opens_still judge content = no_calls content _ (λ image left. inl left)
+pub opens_still : (digest : List ℕ) (content : Content) → OpensWhole digest content content
+opens_still digest content = record { moments = no_calls content (WasOrReadsAlike digest content) (λ image left. inl left); kept = λ begun. refl }
 
 module _ {D : Type 0} where
   up_on : (replicas : List (Named D)) (one : Named D) → AreUp replicas → one.kept.down ≡ None → AreUp (replicas ++ one ∷ [])
@@ -115,7 +115,7 @@ module _ {D : Type 0} where
 
     module _ (policy : List PlacedItem) (digest : List ℕ) where
       still_whole : (disks : List D) → OpenWhole sense good policy digest disks disks
-      still_whole disks = pair_same (λ (d e : D). OpensWhole (criteria sense good policy digest) (sense.content d) (sense.content e)) (λ d. opens_still (criteria sense good policy digest) (sense.content d)) disks
+      still_whole disks = pair_same (λ (d e : D). OpensWhole digest (sense.content d) (sense.content e)) (λ d. opens_still digest (sense.content d)) disks
 
       opened_on : (names : List Bytes) (disks : List D) (replicas : List (Named D)) (faults : D → ℕ) (name : Bytes) (disk : D) (one : Named D)
           → AreOpened sense good policy digest names disks replicas → length disks ≡ length names → IsOpenedAs sense good faults policy digest name disk one
@@ -204,7 +204,7 @@ module _ {D : Type 0} (sense : Sense D) (good : List ℕ → List ℕ → List �
             let those = told.crash tells (each_front (λ (d : D). IsTrue (sense.honest d)) so.firsts (disk ∷ []) honest) in
             let this : IsTrue (sense.honest disk) = (each_behind (λ (d : D). IsTrue (sense.honest d)) so.firsts (disk ∷ []) honest).0 in (
               subst (λ ds. OpenWhole sense good policy digest (so.firsts ++ disk ∷ []) ds) (sym (disks_on replicas one))
-                  (pairs_on (λ (d e : D). OpensWhole (criteria sense good policy digest) (sense.content d) (sense.content e)) so.firsts (map (λ (r : Named D). r.kept.disk) replicas) (disk ∷ []) (one.kept.disk ∷ [])
+                  (pairs_on (λ (d e : D). OpensWhole digest (sense.content d) (sense.content e)) so.firsts (map (λ (r : Named D). r.kept.disk) replicas) (disk ∷ []) (one.kept.disk ∷ [])
                   those.0 (is.disk_then.whole tells this, tt)),
               each_on (λ (r : Named D). IsSafe sense good r.kept) replicas one those.1 (is.safe tells this),
             );
@@ -255,7 +255,7 @@ module _ {D : Type 0} (sense : Sense D) (good : List ℕ → List ℕ → List �
             crash = λ tells honest.
                 let those = told.crash tells (each_front (λ (d : D). IsTrue (sense.honest d)) so.firsts left (subst (λ ds. AllHonest sense ds) (sym so.taken) honest)) in (
                   subst (λ ds. OpenWhole sense good policy digest ds (map (λ r. r.kept.disk) replicas ++ left)) so.taken
-                      (pairs_on (λ (d e : D). OpensWhole (criteria sense good policy digest) (sense.content d) (sense.content e)) so.firsts (map (λ (r : Named D). r.kept.disk) replicas) left left those.0 (still_whole sense good policy digest left)),
+                      (pairs_on (λ (d e : D). OpensWhole digest (sense.content d) (sense.content e)) so.firsts (map (λ (r : Named D). r.kept.disk) replicas) left left those.0 (still_whole sense good policy digest left)),
                   those.1,
                 );
           }
@@ -300,7 +300,7 @@ module _ {D : Type 0} (sense : Sense D) (good : List ℕ → List ℕ → List �
             let those = told.crash tells (each_front (λ (d : D). IsTrue (sense.honest d)) so.firsts (disk ∷ left) each) in
             let this : IsTrue (sense.honest disk) = (each_behind (λ (d : D). IsTrue (sense.honest d)) so.firsts (disk ∷ left) each).0 in
             subst (λ ds. OpenWhole sense good policy digest ds (map (λ r. r.kept.disk) replicas ++ back ∷ left)) so.taken
-            (pairs_on (λ (d e : D). OpensWhole (criteria sense good policy digest) (sense.content d) (sense.content e)) so.firsts (map (λ (r : Named D). r.kept.disk) replicas) (disk ∷ left) (back ∷ left) those.0
+            (pairs_on (λ (d e : D). OpensWhole digest (sense.content d) (sense.content e)) so.firsts (map (λ (r : Named D). r.kept.disk) replicas) (disk ∷ left) (back ∷ left) those.0
             (isnt.disk_then.whole tells this, still_whole sense good policy digest left));
       }
 

@@ -172,7 +172,7 @@ module _ {D : Type 0} (sense : Sense D) (faults : D → ℕ) (tags : Tags) (a b 
         half r held given = record {
           response = t.response;
           answer = t.answer;
-          take = (come.now, record come.now { held = held; down = None }, at_now, (come.up, (held, given, record { same = refl })), refl);
+          take = (come.now, record come.now { held = held; down = None }, at_now, (come.up, (held, given, record { same = refl; still = λ front. refl })), refl);
         }
 
     pub has_taken : (new : List (Named D)) (reply : Result Taken Refusal) → TakesAnswer sense tags.good faults a b old request reply new → HasTaken first old new come.before come.now reply

@@ -38,7 +38,7 @@ module _ {D : Type 0} (sense : Sense D) (good : List ℕ → List ℕ → List �
   -- A disk at each moment of its opening, and the count of its faults.
   pub record OpensDisk (old new : D) : Type 0 where
     pub later : faults old ≤ faults new
-    pub whole : IsTrue sense.tells → IsTrue (sense.honest old) → OpensWhole (criteria sense good policy digest) (sense.content old) (sense.content new)
+    pub whole : IsTrue sense.tells → IsTrue (sense.honest old) → OpensWhole digest (sense.content old) (sense.content new)
 
   -- The replica of this name is opened on a disk.
   pub record IsOpenedAs (name : Bytes) (disk : D) (one : Named D) : Type 0 where
