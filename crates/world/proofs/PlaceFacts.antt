@@ -150,13 +150,11 @@ module _ {D : Type 0} where
   pair_at are same (r ∷ rs) name before after is to = pair_first are same (bytes_eq r.name name) r rs name before after is to (λ there. pair_at are same rs name before after there to)
 
   pub alike_same : (rs : List (Named D)) → AreAlike rs rs
-  alike_same rs = pair_same (λ r s. s ≡ record { name = r.name; kept = record r.kept { down = s.kept.down; disk = s.kept.disk; outline = s.kept.outline } }) (λ r. refl) rs
+  alike_same rs = inl refl
 
   pub alike_at : (rs : List (Named D)) (name : Bytes) (before after : Kept D) → kept_of rs name ≡ Some before → after ≡ record before { down = after.down; disk = after.disk; outline = after.outline }
       → AreAlike rs (with_kept rs name after)
-  alike_at rs name before after is same =
-      pair_at (λ r s. s ≡ record { name = r.name; kept = record r.kept { down = s.kept.down; disk = s.kept.disk; outline = s.kept.outline } }) (λ r. refl) rs name before after is
-      (λ x own. ap (λ (k : Kept D). record x { kept = k }) (same ∙ ap (λ (k : Kept D). record k { down = after.down; disk = after.disk; outline = after.outline }) (sym own)))
+  alike_at rs name before after is same = inr (name, (before, after, is, same, refl))
 
   -- ---- those that are up
 
