@@ -11,12 +11,12 @@ use Rattle.outside.specs.Causes.{Rose}
 use Rattle.outside.specs.Disk.{Content}
 use Rattle.outside.proofs.Crashes.{no_calls}
 use Rattle.policy_ast.specs.declared.policy.PlacedItem.{PlacedItem}
-use Rattle.replica.specs.Disks.{OpensWhole, Sense}
+use Rattle.replica.specs.Disks.{AreSoundFronts, OpensWhole, Sense}
 use Rattle.replica.specs.Fronts.{front_of}
 use Rattle.replica.specs.Kept.{Kept}
 use Rattle.script_texts.specs.Bytes.{Bytes}
 use Rattle.world.specs.Crashes.{AreOpened, AreSafe, IsRefused, IsWhyNot, IsOpenedOn, OpenWhole, RefusesFirst, criteria}
-use Rattle.world.specs.Stops.{HasCause, NoneFell, SomeRose}
+use Rattle.world.specs.Stops.{AreAsHonest, HasCause, NoneFell, SomeRose}
 use Rattle.world.specs.Worlds.{AreUp, EachPair, Named, kept_of}
 use Rattle.world.specs.declared.stop.RunStop.{RunStop}
 use Rattle.world.specs.declared.stop.RunStop.TheVariants as stop
@@ -63,6 +63,23 @@ behind_all [] (y ∷ ys) zs same = absurd (omega (arith, same))
 behind_all (x ∷ xs) [] zs same = absurd (omega (arith, same))
 behind_all (x ∷ xs) (y ∷ ys) zs same = behind_all xs ys zs (omega (arith, same))
 
+-- as many of each
+pairs_length : {X Y : Type 0} (are : X → Y → Type 0) (xs : List X) (ys : List Y) → EachPair are xs ys → length ys ≡ length xs
+pairs_length are [] [] pairs = refl
+pairs_length are [] (y ∷ ys) pairs = absurd pairs
+pairs_length are (x ∷ xs) [] pairs = absurd pairs
+pairs_length are (x ∷ xs) (y ∷ ys) pairs = ap suc (pairs_length are xs ys pairs.1)
+
+-- what is left behind as many and one more, of which one is another
+swapped : {X Y : Type 0} (before rest : List X) (xs ys left : List Y) (n : X) (x y : Y) → length xs ≡ length before → length ys ≡ length before
+    → drop (length (before ++ n ∷ rest)) (xs ++ x ∷ left) ≡ drop (length (before ++ n ∷ rest)) (ys ++ y ∷ left)
+swapped [] rest [] [] left n x y same also = refl
+swapped [] rest (a ∷ xs) ys left n x y same also = absurd (omega (arith, same))
+swapped [] rest [] (b ∷ ys) left n x y same also = absurd (omega (arith, also))
+swapped (m ∷ before) rest [] ys left n x y same also = absurd (omega (arith, same))
+swapped (m ∷ before) rest (a ∷ xs) [] left n x y same also = absurd (omega (arith, also))
+swapped (m ∷ before) rest (a ∷ xs) (b ∷ ys) left n x y same also = swapped before rest xs ys left n x y (omega (arith, same)) (omega (arith, also))
+
 no_rest : {X : Type 0} (xs rest : List X) → length rest ≡ 0 → xs ++ rest ≡ xs
 no_rest [] [] none = refl
 no_rest (x ∷ xs) [] none = ap (λ l. x ∷ l) (no_rest xs [] none)
@@ -101,6 +118,9 @@ module _ {D : Type 0} where
 
   none_fell_same : (faults : D → ℕ) (disks : List D) → NoneFell faults disks disks
   none_fell_same faults disks = pair_same (λ (d e : D). faults d ≤ faults e) (λ d. omega arith) disks
+
+  honest_same : (honest : D → Bool) (disks : List D) → AreAsHonest honest disks disks
+  honest_same honest disks = pair_same (λ (d e : D). honest e ≡ honest d) (λ d. refl) disks
 
   module _ (sense : Sense D) (good : List ℕ → List ℕ → List ℕ → Bool) where
     -- the replica of a name is safe where each is
@@ -166,7 +186,9 @@ module _ {D : Type 0} (sense : Sense D) (good : List ℕ → List ℕ → List �
     place = omega (arith, place);
     fits = omega (arith, fits);
     up = tt;
+    sound = tt;
     none_fell = tt;
+    as_honest = tt;
     told = λ policy each. record { left = each; opened = tt; crash = λ tells honest. (tt, tt) };
   }
   opens_first rules all names disks room wide (r ∷ rs) none counted enough place fits = absurd cc
@@ -188,8 +210,11 @@ module _ {D : Type 0} (sense : Sense D) (good : List ℕ → List ℕ → List �
       place = omega (arith, so.place, up, length-append replicas (one ∷ []));
       fits = omega (arith, so.fits, wider, length-append replicas (one ∷ []));
       up = up_on replicas one so.up (ap (λ (k : Kept D). k.down) is.opened.same);
+      sound = each_on (λ (r : Named D). AreSoundFronts good r.kept) replicas one so.sound is.sound;
       none_fell = subst (λ ds. NoneFell faults (so.firsts ++ disk ∷ []) ds) (sym (disks_on replicas one))
           (pairs_on (λ (d e : D). faults d ≤ faults e) so.firsts (map (λ (r : Named D). r.kept.disk) replicas) (disk ∷ []) (one.kept.disk ∷ []) so.none_fell (is.disk_then.later, tt));
+      as_honest = subst (λ ds. AreAsHonest sense.honest (so.firsts ++ disk ∷ []) ds) (sym (disks_on replicas one))
+          (pairs_on (λ (d e : D). sense.honest e ≡ sense.honest d) so.firsts (map (λ (r : Named D). r.kept.disk) replicas) (disk ∷ []) (one.kept.disk ∷ []) so.as_honest (is.disk_then.as_honest, tt));
       told = λ policy each.
           let told = so.told policy each in
           let same : rules runner ≡ policy = All-head (λ x. rules x ≡ policy) runner runners told.left in
@@ -235,12 +260,20 @@ module _ {D : Type 0} (sense : Sense D) (good : List ℕ → List ℕ → List �
     -- ---- all are opened
 
     module _ (room wide : ℕ) (replicas : List (Named D)) (runners : List A) (rest : List Bytes) (left : List D) (so : OpensSoFar sense good faults digest rules all names disks room wide replicas runners rest left) where
-      pub all_up : length rest ≡ 0 → AreAllUp faults names disks replicas left
+      pub all_up : length rest ≡ 0 → AreAllUp sense good faults names disks replicas left
       all_up none =
           let same : so.before ≡ names = sym (no_rest so.before rest none) ∙ so.named in
+          let behind : left ≡ drop (length names) disks =
+                  behind_all so.before so.firsts left so.paired ∙ ap (λ ds. drop (length so.before) ds) so.taken ∙ ap (λ (ns : List Bytes). drop (length ns) disks) same in
+          let many : length (map (λ (r : Named D). r.kept.disk) replicas) ≡ length names =
+                  pairs_length (λ (d e : D). faults d ≤ faults e) so.firsts (map (λ (r : Named D). r.kept.disk) replicas) so.none_fell ∙ so.paired ∙ ap (λ (ns : List Bytes). length ns) same in
           record {
-            behind = behind_all so.before so.firsts left so.paired ∙ ap (λ ds. drop (length so.before) ds) so.taken ∙ ap (λ (ns : List Bytes). drop (length ns) disks) same;
+            behind = behind;
+            beyond = sym (behind_all names (map (λ (r : Named D). r.kept.disk) replicas) left many) ∙ behind;
             up = so.up;
+            sound = so.sound;
+            as_honest = subst (λ ds. AreAsHonest sense.honest ds (map (λ r. r.kept.disk) replicas ++ left)) so.taken
+                (pairs_on (λ (d e : D). sense.honest e ≡ sense.honest d) so.firsts (map (λ (r : Named D). r.kept.disk) replicas) left left so.as_honest (honest_same sense.honest left));
             none_fell = subst (λ ds. NoneFell faults ds (map (λ r. r.kept.disk) replicas ++ left)) so.taken
                 (pairs_on (λ (d e : D). faults d ≤ faults e) so.firsts (map (λ (r : Named D). r.kept.disk) replicas) left left so.none_fell (none_fell_same faults left));
           }
@@ -281,12 +314,17 @@ module _ {D : Type 0} (sense : Sense D) (good : List ℕ → List ℕ → List �
 
     module _ (room wide : ℕ) (replicas : List (Named D)) (runner : A) (runners : List A) (name : Bytes) (rest : List Bytes) (disk : D) (left : List D) (why : RunStop) (back : D)
         (so : OpensSoFar sense good faults digest rules all names disks room wide replicas (runner ∷ runners) (name ∷ rest) (disk ∷ left)) (isnt : IsNotOpened sense good faults (rules runner) digest name disk why back) where
-      counts_back : AreBack faults disks why (map (λ r. r.kept.disk) replicas ++ back ∷ left)
+      counts_back : AreBack sense good faults names disks why (map (λ r. r.kept.disk) replicas ++ back ∷ left)
       counts_back = record {
         cause = subst (λ ds. HasCause 0 0 faults ds (map (λ r. r.kept.disk) replicas ++ back ∷ left) why) so.taken
             (why_cause so.firsts (map (λ (r : Named D). r.kept.disk) replicas) disk back left why (λ told cause. (told ≡ name) × IsRefused sense good (criteria sense good (rules runner) digest) disk cause) so.none_fell isnt.cause);
         none_fell = subst (λ ds. NoneFell faults ds (map (λ r. r.kept.disk) replicas ++ back ∷ left)) so.taken
             (pairs_on (λ (d e : D). faults d ≤ faults e) so.firsts (map (λ (r : Named D). r.kept.disk) replicas) (disk ∷ left) (back ∷ left) so.none_fell (isnt.disk_then.later, none_fell_same faults left));
+        beyond = subst (λ (ns : List Bytes). drop (length ns) (map (λ r. r.kept.disk) replicas ++ back ∷ left) ≡ drop (length ns) disks) so.named
+            (subst (λ ds. drop (length (so.before ++ name ∷ rest)) (map (λ r. r.kept.disk) replicas ++ back ∷ left) ≡ drop (length (so.before ++ name ∷ rest)) ds) so.taken
+            (swapped so.before rest (map (λ (r : Named D). r.kept.disk) replicas) so.firsts left name back disk (pairs_length (λ (d e : D). faults d ≤ faults e) so.firsts (map (λ (r : Named D). r.kept.disk) replicas) so.none_fell ∙ so.paired) so.paired));
+        as_honest = subst (λ ds. AreAsHonest sense.honest ds (map (λ r. r.kept.disk) replicas ++ back ∷ left)) so.taken
+            (pairs_on (λ (d e : D). sense.honest e ≡ sense.honest d) so.firsts (map (λ (r : Named D). r.kept.disk) replicas) (disk ∷ left) (back ∷ left) so.as_honest (isnt.disk_then.as_honest, honest_same sense.honest left));
       }
 
       handed_back : (policy : List PlacedItem) → OpenedSoFar sense good faults digest rules policy (runner ∷ runners) so.before so.firsts replicas → IsNotOpened sense good faults policy digest name disk why back
@@ -313,8 +351,8 @@ module _ {D : Type 0} (sense : Sense D) (good : List ℕ → List ℕ → List �
         put_is : put ≡ map (λ r. r.kept.disk) replicas ++ back ∷ left
         put_is = is ∙ ap (λ ds. map (λ (r : Named D). r.kept.disk) replicas ++ ds) first
 
-        pub counts_put : AreBack faults disks why put
-        counts_put = subst (AreBack faults disks why) (sym put_is) counts_back
+        pub counts_put : AreBack sense good faults names disks why put
+        counts_put = subst (AreBack sense good faults names disks why) (sym put_is) counts_back
 
         pub handed_put : (policy : List PlacedItem) → All (λ r. rules r ≡ policy) all → AreHandedBack sense good faults policy digest names disks why put
         handed_put policy each = subst (AreHandedBack sense good faults policy digest names disks why) (sym put_is) (handed_under policy each)
@@ -324,14 +362,14 @@ module _ {D : Type 0} (sense : Sense D) (good : List ℕ → List ℕ → List �
   pub back_untouched : (policy : List PlacedItem) (digest : List ℕ) (names : List Bytes) → AreHandedBack sense good faults policy digest names disks stop.NoMemory disks
   back_untouched policy digest names = record { why_not = tt; crash = λ tells honest. still_whole sense good policy digest disks }
 
-  pub counts_untouched : AreBack faults disks stop.NoMemory disks
-  counts_untouched = record { cause = tt; none_fell = none_fell_same faults disks }
+  pub counts_untouched : (names : List Bytes) → AreBack sense good faults names disks stop.NoMemory disks
+  counts_untouched names = record { cause = tt; beyond = refl; none_fell = none_fell_same faults disks; as_honest = honest_same sense.honest disks }
 
 -- ---- the world
 
 module _ {D : Type 0} (sense : Sense D) (good : List ℕ → List ℕ → List ℕ → Bool) (faults : D → ℕ) (policy : List PlacedItem) (digest : List ℕ) (names : List Bytes) (disks : List D) (replicas : List (Named D)) (spare : List D) where
   -- what was opened is a world as a run begins
-  pub opened_as : (messages : List (Option (List ℕ))) → AreAllOpened sense good faults policy digest names disks replicas spare → AreAllUp faults names disks replicas spare → messages ≡ []
+  pub opened_as : (messages : List (Option (List ℕ))) → AreAllOpened sense good faults policy digest names disks replicas spare → AreAllUp sense good faults names disks replicas spare → messages ≡ []
       → IsOpenedOn sense good policy digest names disks (record { replicas = replicas; messages = messages; spare = spare })
   opened_as messages opened up none = record { replicas = opened.opened; none = none; spare = up.behind }
 

@@ -1,11 +1,12 @@
-ghost use Rattle.std.specs.Prelude.{◌≡◌, ◌≤◌, ◌<◌, ◌+◌, ℕ, All, Err, IfErr, IfOk, IsTrue, List, OnErr, OnOk, length, map, true};
+ghost use Rattle.std.specs.Prelude.{◌≡◌, ◌≤◌, ◌<◌, ◌+◌, ℕ, All, Err, IfErr, IfOk, IsTrue, List, OnErr, OnOk, drop, length, map, true};
 ghost use Rattle.std.specs.List.{AllByRecursion};
 ghost use Rattle.journal.specs.declared.fault.OpenFault.{OpenFault};
 ghost use Rattle.policy_ast.specs.declared.policy.PlacedItem.{PlacedItem};
+ghost use Rattle.replica.specs.Disks.{AreSoundFronts};
 ghost use Rattle.script.specs.Scripts.{with_line};
 ghost use Rattle.world.specs.Lines.{Tags, may_run};
 ghost use Rattle.world.specs.Crashes.{AreSafe, OpenAtEachMoment, OpenWhole, OpensWorld, opened_disks};
-ghost use Rattle.world.specs.Stops.{Acts, HasCause, IsFront, IsSteady, NoneFell, RefusesJournal, Steps as IsStepOf};
+ghost use Rattle.world.specs.Stops.{Acts, AreAsHonest, HasCause, IsFront, IsSteady, NoneFell, RefusesJournal, Steps as IsStepOf};
 ghost use Rattle.world.specs.Worlds.{AreUp, declared, disks_of, with_message};
 ghost use Rattle.world.specs.declared.stop.RunStop.TheVariants as stop;
 ghost use Rattle.world.specs.working.Kinds.{Keeping, is_changing, is_making, is_showing};
@@ -76,9 +77,12 @@ impl<R: Runner, G: Graph, F: FactBase, D: Disk> World<R, G, F, D> {
         requires disks { length names.now ≤ length disks.items }
         ensures opens { (policy : List PlacedItem) → All (λ r. R.rules r ≡ policy) runners.items → OpensWorld (record { tells = D.tells; content = D.content; honest = D.honest }) E.good policy digest.now names.now disks.items result }
         ensures up { IfOk result (λ world. AreUp world.replicas) }
+        ensures sound { IfOk result (λ world. AllByRecursion (λ r. AreSoundFronts E.good r.kept) world.replicas) }
         ensures crash { (policy : List PlacedItem) → All (λ r. R.rules r ≡ policy) runners.items → IsTrue D.tells → AllByRecursion (λ d. IsTrue (D.honest d)) disks.items
             → OpenWhole (record { tells = D.tells; content = D.content; honest = D.honest }) E.good policy digest.now disks.items (opened_disks result) × IfOk result (λ world. AreSafe (record { tells = D.tells; content = D.content; honest = D.honest }) E.good world.replicas) }
+        ensures spare { drop (length names.now) (opened_disks result) ≡ drop (length names.now) disks.items }
         ensures disks { NoneFell D.faults disks.items (opened_disks result) }
+        ensures honest { AreAsHonest D.honest disks.items (opened_disks result) }
         ensures cause { IfErr result (λ refused. HasCause 0 0 D.faults disks.items refused.1.items refused.0) }
     {
         match open_all(alloc, runners, names, digest, disks, env) {

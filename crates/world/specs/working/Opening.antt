@@ -8,11 +8,11 @@ use Rattle.outside.specs.Causes.{Rose}
 use Rattle.outside.specs.Envelope.{author_id}
 use Rattle.policy_ast.specs.declared.policy.PlacedItem.{PlacedItem}
 use Rattle.replica.specs.Calls.{IsOpened}
-use Rattle.replica.specs.Disks.{OpensWhole, Sense}
+use Rattle.replica.specs.Disks.{AreSoundFronts, OpensWhole, Sense}
 use Rattle.replica.specs.Fronts.{front_of}
 use Rattle.script_texts.specs.Bytes.{Bytes}
 use Rattle.world.specs.Crashes.{AreOpened, IsRefused, IsWhyNot, OpenWhole, OpensTo, criteria}
-use Rattle.world.specs.Stops.{HasCause, NoneFell}
+use Rattle.world.specs.Stops.{AreAsHonest, HasCause, NoneFell}
 use Rattle.world.specs.Worlds.{AreUp, Named}
 use Rattle.world.specs.declared.stop.RunStop.{RunStop}
 use Rattle.world.specs.declared.stop.RunStop.TheVariants as stop
@@ -35,9 +35,10 @@ abbrev pub EachSafe : {D : Type 0} → Sense D → (List ℕ → List ℕ → Li
 EachSafe sense good replicas = AllByRecursion (λ r. IsSafe sense good r.kept) replicas
 
 module _ {D : Type 0} (sense : Sense D) (good : List ℕ → List ℕ → List ℕ → Bool) (faults : D → ℕ) (policy : List PlacedItem) (digest : List ℕ) where
-  -- A disk at each moment of its opening, and the count of its faults.
+  -- A disk at each moment of its opening, and the count of its faults. It is as honest as it was.
   pub record OpensDisk (old new : D) : Type 0 where
     pub later : faults old ≤ faults new
+    pub as_honest : sense.honest new ≡ sense.honest old
     pub whole : IsTrue sense.tells → IsTrue (sense.honest old) → OpensWhole digest (sense.content old) (sense.content new)
 
   -- The replica of this name is opened on a disk.
@@ -45,6 +46,7 @@ module _ {D : Type 0} (sense : Sense D) (good : List ℕ → List ℕ → List �
     pub named : one.name ≡ name
     pub opened : IsOpened policy digest (author_id name) one.kept
     pub opens : OpensTo sense good (criteria sense good policy digest) disk (front_of one.kept.held)
+    pub sound : AreSoundFronts good one.kept
     pub safe : IsTrue sense.tells → IsTrue (sense.honest disk) → IsSafe sense good one.kept
     pub disk_then : OpensDisk disk one.kept.disk
 
@@ -73,20 +75,25 @@ module _ {D : Type 0} (sense : Sense D) (good : List ℕ → List ℕ → List �
   OpensAll names disks (Ok both) = AreAllOpened names disks both.0.items both.1.items
   OpensAll names disks (Err refused) = AreHandedBack names disks refused.0 refused.1.items
 
-module _ {D : Type 0} (faults : D → ℕ) where
-  -- The same under whatever policies: the counts of faults.
+module _ {D : Type 0} (sense : Sense D) (good : List ℕ → List ℕ → List ℕ → Bool) (faults : D → ℕ) where
+  -- The same under whatever policies: the counts of faults, which disks are honest, and those that no replica uses; what each disk may open to is sound.
   pub record AreAllUp {X : Type 0} (names : List X) (disks : List D) (replicas : List (Named D)) (spare : List D) : Type 0 where
     pub behind : spare ≡ drop (length names) disks
+    pub beyond : drop (length names) (map (λ r. r.kept.disk) replicas ++ spare) ≡ drop (length names) disks
     pub up : AreUp replicas
+    pub sound : AllByRecursion (λ r. AreSoundFronts good r.kept) replicas
     pub none_fell : NoneFell faults disks (map (λ r. r.kept.disk) replicas ++ spare)
+    pub as_honest : AreAsHonest sense.honest disks (map (λ r. r.kept.disk) replicas ++ spare)
 
-  pub record AreBack (disks : List D) (why : RunStop) (back : List D) : Type 0 where
+  pub record AreBack {X : Type 0} (names : List X) (disks : List D) (why : RunStop) (back : List D) : Type 0 where
     pub cause : HasCause 0 0 faults disks back why
+    pub beyond : drop (length names) back ≡ drop (length names) disks
     pub none_fell : NoneFell faults disks back
+    pub as_honest : AreAsHonest sense.honest disks back
 
   abbrev pub CountsAll : List Bytes → List D → Result (Vec (Named D) Global × Vec D Global) (RunStop × Vec D Global) → Type 0
   CountsAll names disks (Ok both) = AreAllUp names disks both.0.items both.1.items
-  CountsAll names disks (Err refused) = AreBack disks refused.0 refused.1.items
+  CountsAll names disks (Err refused) = AreBack names disks refused.0 refused.1.items
 
 -- ---- so far
 
@@ -110,5 +117,7 @@ module _ {D : Type 0} (sense : Sense D) (good : List ℕ → List ℕ → List �
     pub place : length rest + length replicas ≤ room
     pub fits : length replicas + length left ≤ wide
     pub up : AreUp replicas
+    pub sound : AllByRecursion (λ r. AreSoundFronts good r.kept) replicas
     pub none_fell : NoneFell faults firsts (map (λ r. r.kept.disk) replicas)
+    pub as_honest : AreAsHonest sense.honest firsts (map (λ r. r.kept.disk) replicas)
     pub told : (policy : List PlacedItem) → All (λ r. rules r ≡ policy) all → OpenedSoFar rules policy runners before firsts replicas

@@ -32,7 +32,7 @@ pub returns-in-Err-clause-opens : goal.returns-in-Err-clause-opens
 returns-in-Err-clause-opens g c = λ policy each. back_untouched (record { tells = g.D.Disk.tells; content = g.D.Disk.content; honest = g.D.Disk.honest }) g.E.Envelope.good g.D.Disk.faults c.args.disks.items policy c.args.digest.now c.args.names.now
 
 pub returns-in-Err-clause-counts : goal.returns-in-Err-clause-counts
-returns-in-Err-clause-counts g c = counts_untouched (record { tells = g.D.Disk.tells; content = g.D.Disk.content; honest = g.D.Disk.honest }) g.E.Envelope.good g.D.Disk.faults c.args.disks.items
+returns-in-Err-clause-counts g c = counts_untouched (record { tells = g.D.Disk.tells; content = g.D.Disk.content; honest = g.D.Disk.honest }) g.E.Envelope.good g.D.Disk.faults c.args.disks.items c.args.names.now
 
 pub returns-in-Err-open_one : goal.returns-in-Err-open_one
 returns-in-Err-open_one g c =

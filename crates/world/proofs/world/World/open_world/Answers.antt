@@ -13,3 +13,6 @@ returns-in-Ok-clause-crash g c = λ policy each.
 
 pub returns-in-Err-clause-opens : goal.returns-in-Err-clause-opens
 returns-in-Err-clause-opens g c = λ policy each. (c.in-Err.ensures.opens policy each).why_not
+
+pub returns-in-Err-clause-crash : goal.returns-in-Err-clause-crash
+returns-in-Err-clause-crash g c = λ policy each tells honest. ((c.in-Err.ensures.opens policy each).crash tells honest, tt)
