@@ -122,6 +122,7 @@ module _ {D : Type 0} (sense : Sense D) (good : List ℕ → List ℕ → List �
         → IsStep before gives refuses reply after → Treats sense good faults before after reply → Fares sense good faults reached old name before after
     fares_step gives refuses old name before after reply is up there all step treats = record {
       later = treats.later;
+      as_honest = treats.as_honest;
       crash = λ safe.
           let w = treats.crash safe.0 in (
             (w.trusted, w.survives),
@@ -143,6 +144,7 @@ module _ {D : Type 0} (sense : Sense D) (good : List ℕ → List ℕ → List �
         → Fares sense good faults reached first name before now → Fares sense good faults reached mid name now after → Fares sense good faults reached first name before after
     fares_on first mid name before now after set judged far more = record {
       later = omega (arith, far.later, more.later);
+      as_honest = more.as_honest ∙ far.as_honest;
       crash = λ safe.
           let x = far.crash safe in
           let y = more.crash x.0 in (
@@ -170,6 +172,7 @@ module _ {D : Type 0} (sense : Sense D) (good : List ℕ → List ℕ → List �
     pub fares_still : (old : List (Named D)) (name : Bytes) (before : Kept D) → kept_of old name ≡ Some before → before.down ≡ None → reached old → Fares sense good faults reached old name before before
     fares_still old name before is up there = record {
       later = omega arith;
+      as_honest = refl;
       crash = λ safe. (
         safe,
         no_calls (sense.content before.disk) (λ image. (f : Front) × Reaches good reached old name before f × OpensAs (criteria_of good before) image (Opens f))
@@ -306,7 +309,7 @@ module _ {D : Type 0} (sense : Sense D) (good : List ℕ → List ℕ → List �
       pub handles : (refused : List ℕ → OpenFault → Type 0) (line : Option Bytes) (result : Result Bytes RunStop) → (IsDiskFault reply → line ≡ None) → WordsBy (refusal_of reply) line result
           → Handles sense good faults sealed refused reached old result new
       handles refused line result silent words = record {
-        later = subst (AreLater faults old) (sym w.set) (later_at faults old name w.before w.after w.is w.fares.later);
+        later = subst (AreLater faults sense.honest old) (sym w.set) (later_at faults sense.honest old name w.before w.after w.is w.fares.later w.fares.as_honest);
         up = up_then line result silent words;
         cause = caused_then refused line result words;
         crash = λ safe. (safe_then safe, open_then safe);
@@ -316,7 +319,7 @@ module _ {D : Type 0} (sense : Sense D) (good : List ℕ → List ℕ → List �
     pub handles_still : {T : Type 0} (sealed : Type 0) (refused : List ℕ → OpenFault → Type 0) (old : List (Named D)) (result : Result T RunStop) → AreUp old → reached old → IfErr result (λ s. s ≡ stop.NoMemory)
         → Handles sense good faults sealed refused reached old result old
     handles_still {T = T} sealed refused old result up there none = record {
-      later = later_same faults old;
+      later = later_same faults sense.honest old;
       up = all_up result;
       cause = none_caused result none;
       crash = λ safe. (safe, still_open old up there safe);

@@ -114,6 +114,7 @@ module _ {D : Type 0} (sense : Sense D) (good : List ℕ → List ℕ → List �
   fares : Fares sense good faults reached old name before after
   fares = record {
     later = restarts.treats.later;
+    as_honest = restarts.treats.as_honest;
     crash = λ safe.
         let w = restarts.treats.crash safe.0 in (
           (w.trusted, w.survives),

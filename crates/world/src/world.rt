@@ -230,6 +230,7 @@ impl<R: Runner, G: Graph, F: FactBase, D: Disk> World<R, G, F, D> {
         ensures up { OnOk result (AreUp self.new.replicas) }
         ensures later { E.faults env.old ≤ E.faults env.new }
         ensures disks { NoneFell D.faults (disks_of self.old) (disks_of self.new) }
+        ensures honest { AreAsHonest D.honest (disks_of self.old) (disks_of self.new) }
         ensures cause { IfErr result (HasCause (E.faults env.old) (E.faults env.new) D.faults (disks_of self.old) (disks_of self.new)) }
         ensures seals { IfErr result (λ why. why ≡ stop.SealFault → Acts line.now) }
         ensures journals { (name : List ℕ) (cause : OpenFault) → result ≡ Err (stop.Journal name cause) → RefusesJournal (record { tells = D.tells; content = D.content; honest = D.honest }) E.good self.old.replicas line.now name cause }
