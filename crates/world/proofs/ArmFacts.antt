@@ -79,4 +79,4 @@ module _ {D : Type 0} (tags : Tags) (messages : List (Option Bytes)) (sense : Se
 
   -- as many replicas as before
   pub as_many : (sealed : Type 0) (refused : List ℕ → OpenFault → Type 0) (reached : List (Named D) → Type 0) → Handles sense tags.good faults sealed refused reached old result new → length new ≡ length old
-  as_many sealed refused reached h = sym (length-map new (λ r. r.name)) ∙ ap length (names_stay faults old new h.later) ∙ length-map old (λ r. r.name)
+  as_many sealed refused reached h = sym (length-map new (λ r. r.name)) ∙ ap length (names_stay faults sense.honest old new h.later) ∙ length-map old (λ r. r.name)

@@ -78,7 +78,7 @@ module _ {D : Type 0} (sense : Sense D) (good : List ℕ → List ℕ → List �
         let reached : List (Named D) → Type 0 = FrontOf (RunsAction verb name (λ kept. Begins kept good told action)) NoneOf old in
         handles sense good reached faults sealed old name reply new up (inl refl)
         (weathers_step sense good faults reached sealed begin_gives begin_refuses old name reply new up (inl refl) (λ before failed why is because. caused before failed why is because)
-        (λ before r held is own given. inr (inl (_, (Ok r, (t, u), (before, record before { held = held; down = None }, is, (own, (held, given, record { same = refl })), refl), refl)))) changes)
+        (λ before r held is own given. inr (inl (_, (Ok r, (t, u), (before, record before { held = held; down = None }, is, (own, (held, given, record { same = refl; still = λ front. refl })), refl), refl)))) changes)
         NoJournal (published_line verb name reply) result (λ fell. ap (published_line verb name) fell.1) words
       where
         caused : (before : Kept D) (failed : Type 0) (why : Refusal) → reply ≡ Err why → begin_refuses before why → IsCausedBy sealed failed why
@@ -100,8 +100,8 @@ module _ {D : Type 0} (sense : Sense D) (good : List ℕ → List ℕ → List �
         handles sense good reached faults sealed old name reply new up (inl refl)
         (weathers_step sense good faults reached sealed (λ kept. IsActionOf kept good told action t u) (λ kept. IsFault (basis_of kept good told) kept.held.rows action t u) old name reply new up (inl refl)
         (λ before failed why is because.
-            fault_caused sealed failed (basis_of before good told) before.held.rows action t u why because (subst (λ r. IfErr r (λ w. w ≡ refusal.Act fault.SealFault → sealed)) is rose))
-        (λ before r held is own given. inr (inl (_, (Ok r, (t, u), (before, record before { held = held; down = None }, is, (own, (held, given, record { same = refl })), refl), refl)))) changes)
+        fault_caused sealed failed (basis_of before good told) before.held.rows action t u why because (subst (λ r. IfErr r (λ w. w ≡ refusal.Act fault.SealFault → sealed)) is rose))
+        (λ before r held is own given. inr (inl (_, (Ok r, (t, u), (before, record before { held = held; down = None }, is, (own, (held, given, record { same = refl; still = λ front. refl })), refl), refl)))) changes)
         NoJournal (published_line verb name reply) result (λ fell. ap (published_line verb name) fell.1) words
 
   -- ---- takes
@@ -120,7 +120,7 @@ module _ {D : Type 0} (sense : Sense D) (good : List ℕ → List ℕ → List �
         handles sense good reached faults sealed old name reply new up (inl refl)
         (weathers_step sense good faults reached sealed (λ kept. IsTakeOf kept good bytes) (λ kept why. IsResponseRead bytes kept.held.graph_id (Err why)) old name reply new up (inl refl)
         (λ before failed why is because. mild_caused sealed failed why (read_mild _ _ bytes before.held.graph_id why because))
-        (λ before r held is own given. inr (inl (_, (Ok r, (before, record before { held = held; down = None }, is, (own, (held, given, record { same = refl })), refl), refl)))) changes)
+        (λ before r held is own given. inr (inl (_, (Ok r, (before, record before { held = held; down = None }, is, (own, (held, given, record { same = refl; still = λ front. refl })), refl), refl)))) changes)
         NoJournal (taken_line name reply) result (λ fell. ap (taken_line name) fell.1) words
 
   -- a message that wasn't made
@@ -163,7 +163,7 @@ module _ {D : Type 0} (sense : Sense D) (good : List ℕ → List ℕ → List �
         let reached : List (Named D) → Type 0 = FrontOf (JoinsGraph name (Ok id)) NoneOf old in
         handles sense good reached faults sealed old name reply new up (inl refl)
         (weathers_step sense good faults reached sealed join_gives join_refuses old name reply new up (inl refl) (λ before failed why is because. subst (IsCausedBy sealed failed) (sym because.1) tt)
-        (λ before r held is own given. inr (inl (_, (Ok r, (before, record before { held = held; down = None }, is, (own, (held, given, record { same = refl })), refl), refl)))) changes)
+        (λ before r held is own given. inr (inl (_, (Ok r, (before, record before { held = held; down = None }, is, (own, (held, given, record { same = refl; still = λ front. refl })), refl), refl)))) changes)
         NoJournal (joined_line name reply) result (λ fell. ap (joined_line name) fell.1) words
 
 -- ---- lines that make a message

@@ -122,6 +122,7 @@ module _ {D : Type 0} (sense : Sense D) (good : List ℕ → List ℕ → List �
         → IsStep before gives refuses reply after → Treats sense good faults before after reply → Fares sense good faults reached old name before after
     fares_step gives refuses old name before after reply is up there all step treats = record {
       later = treats.later;
+      as_honest = treats.as_honest;
       crash = λ safe.
           let w = treats.crash safe.0 in (
             (w.trusted, w.survives),
@@ -143,6 +144,7 @@ module _ {D : Type 0} (sense : Sense D) (good : List ℕ → List ℕ → List �
         → Fares sense good faults reached first name before now → Fares sense good faults reached mid name now after → Fares sense good faults reached first name before after
     fares_on first mid name before now after set judged far more = record {
       later = omega (arith, far.later, more.later);
+      as_honest = more.as_honest ∙ far.as_honest;
       crash = λ safe.
           let x = far.crash safe in
           let y = more.crash x.0 in (
@@ -170,11 +172,12 @@ module _ {D : Type 0} (sense : Sense D) (good : List ℕ → List ℕ → List �
     pub fares_still : (old : List (Named D)) (name : Bytes) (before : Kept D) → kept_of old name ≡ Some before → before.down ≡ None → reached old → Fares sense good faults reached old name before before
     fares_still old name before is up there = record {
       later = omega arith;
+      as_honest = refl;
       crash = λ safe. (
-          safe,
-          no_calls (sense.content before.disk) (λ image. (f : Front) × Reaches good reached old name before f × OpensAs (criteria_of good before) image (Opens f))
-              (λ image may. let o = safe.1 image may in (o.0, reaches_same reached old name before o.0 is there (open_front before o.0 up o.1), o.2)),
-        );
+        safe,
+        no_calls (sense.content before.disk) (λ image. (f : Front) × Reaches good reached old name before f × OpensAs (criteria_of good before) image (Opens f))
+            (λ image may. let o = safe.1 image may in (o.0, reaches_same reached old name before o.0 is there (open_front before o.0 up o.1), o.2)),
+      );
     }
 
     pub weathers_step : {T : Type 0} (sealed : Type 0) (gives : Kept D → T → Held → Type 0) (refuses : Kept D → Refusal → Type 0) (old : List (Named D)) (name : Bytes) (reply : Result T Refusal) (new : List (Named D))
@@ -261,6 +264,7 @@ module _ {D : Type 0} (sense : Sense D) (good : List ℕ → List ℕ → List �
         where
           P : Bytes → List ℕ → Type 0
           P = λ a image. (replicas : List (Named D)) × reached replicas × OpensIn sense good replicas a image
+
           to : (a image : List ℕ) → ((after : Kept D) → kept_of (with_kept old name after) a ≡ Some after) → ((f : Front) × Reaches good reached old name w.before f × OpensAs (criteria_of good w.before) image (Opens f)) → P a image
           to a image then (f, reaches, opens) = (
             with_kept old name reaches.kept,
@@ -271,6 +275,7 @@ module _ {D : Type 0} (sense : Sense D) (good : List ℕ → List ℕ → List �
               subst (λ f. OpensAs (criteria_of good reaches.kept) image (Opens f)) (sym reaches.holds) (subst (λ c. OpensAs c image (Opens f)) (sym reaches.judged) opens),
             ),
           )
+
           by : (a : Bytes) (before after : Kept D) → kept_of old a ≡ Some before → kept_of (with_kept old name w.after) a ≡ Some after
               → ((after : Kept D) → kept_of (with_kept old name after) a ≡ kept_of old a) ⊎ ((kept_of old a ≡ Some w.before) × ((after : Kept D) → kept_of (with_kept old name after) a ≡ Some after))
               → LeavesOnly (sense.content before.disk) (sense.content after.disk) (P a)
@@ -288,6 +293,7 @@ module _ {D : Type 0} (sense : Sense D) (good : List ℕ → List ℕ → List �
         where
           no_line : ◌≡◌ {A = Option Bytes} None (Some text) → ⊥
           no_line e = absurd cc
+
           by : (w.after.down ≡ None) ⊎ IsDiskFault reply → AreUp new
           by (inl is) = subst AreUp (sym w.set) (stay_up old name w.after up is)
           by (inr fell) = absurd (no_line (sym (silent fell) ∙ words))
@@ -303,7 +309,7 @@ module _ {D : Type 0} (sense : Sense D) (good : List ℕ → List ℕ → List �
       pub handles : (refused : List ℕ → OpenFault → Type 0) (line : Option Bytes) (result : Result Bytes RunStop) → (IsDiskFault reply → line ≡ None) → WordsBy (refusal_of reply) line result
           → Handles sense good faults sealed refused reached old result new
       handles refused line result silent words = record {
-        later = subst (AreLater faults old) (sym w.set) (later_at faults old name w.before w.after w.is w.fares.later);
+        later = subst (AreLater faults sense.honest old) (sym w.set) (later_at faults sense.honest old name w.before w.after w.is w.fares.later w.fares.as_honest);
         up = up_then line result silent words;
         cause = caused_then refused line result words;
         crash = λ safe. (safe_then safe, open_then safe);
@@ -313,7 +319,7 @@ module _ {D : Type 0} (sense : Sense D) (good : List ℕ → List ℕ → List �
     pub handles_still : {T : Type 0} (sealed : Type 0) (refused : List ℕ → OpenFault → Type 0) (old : List (Named D)) (result : Result T RunStop) → AreUp old → reached old → IfErr result (λ s. s ≡ stop.NoMemory)
         → Handles sense good faults sealed refused reached old result old
     handles_still {T = T} sealed refused old result up there none = record {
-      later = later_same faults old;
+      later = later_same faults sense.honest old;
       up = all_up result;
       cause = none_caused result none;
       crash = λ safe. (safe, still_open old up there safe);
@@ -322,6 +328,7 @@ module _ {D : Type 0} (sense : Sense D) (good : List ℕ → List ℕ → List �
         all_up : (r : Result T RunStop) → OnOk r (AreUp old)
         all_up (Ok x) = up
         all_up (Err s) = tt
+
         none_caused : (r : Result T RunStop) → IfErr r (λ s. s ≡ stop.NoMemory) → IfErr r (IsStopFor sealed (SomeRose faults (map (λ r. r.kept.disk) old) (map (λ r. r.kept.disk) old)) refused)
         none_caused (Ok x) is = tt
         none_caused (Err s) is = subst (IsStopFor sealed (SomeRose faults (map (λ r. r.kept.disk) old) (map (λ r. r.kept.disk) old)) refused) (sym is) tt

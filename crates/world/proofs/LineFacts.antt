@@ -10,7 +10,7 @@ use Rattle.script.specs.declared.line.Line.{Line}
 use Rattle.script.specs.declared.line.Line.TheVariants as line
 use Rattle.script_texts.specs.Bytes.{Bytes}
 use Rattle.world.specs.Lines.{KeepsRest, Runs, Tags, may_run}
-use Rattle.world.specs.Stops.{Acts, HasCause, IsFront, IsSteady, LeavesFront, NoneFell, RefusesJournal, RunsOrStops, SomeOf, SomeRose}
+use Rattle.world.specs.Stops.{Acts, AreAsHonest, HasCause, IsFront, IsSteady, LeavesFront, NoneFell, RefusesJournal, RunsOrStops, SomeOf, SomeRose}
 use Rattle.world.specs.Worlds.{AreUp, Named, Site, declared, disks_of, site_of, with_message}
 use Rattle.world.specs.declared.said.Said.{Said}
 use Rattle.world.specs.declared.stop.RunStop.{RunStop}
@@ -22,7 +22,7 @@ use Rattle.world.specs.working.Passing.{Passes, RunsOn, StepsOn}
 use Rattle.world.specs.working.Running.{Changing, FrontOf, Making, RunsIn, SaysIn, Showing, ShowsIn}
 use Rattle.world.specs.working.Stopping.{IsStopFor}
 use Rattle.world.proofs.HandleFacts.{handles_more, handles_still}
-use Rattle.world.proofs.PlaceFacts.{alike_same, none_fell, rose_more}
+use Rattle.world.proofs.PlaceFacts.{all_as_honest, alike_same, none_fell, rose_more}
 
 -- ---- how many messages there are
 
@@ -144,7 +144,6 @@ module _ {D : Type 0} (tags : Tags) where
   runs_count old (line.Sync a b) text new (runs, rest) = ap length rest.0
   runs_count old (line.Take a n) text new (runs, rest) = ap length rest.0
   runs_count old (line.Restart a) text new (runs, rest) = ap length rest.0
-
 
   -- ---- a line, whatever it answers
 
@@ -292,7 +291,11 @@ module _ {D : Type 0} (sense : Sense D) (good : List ℕ → List ℕ → List �
 
     pub step_disks : (result : Result T RunStop) → Handled result → NoneFell faults (disks_of old) (disks_of new)
     step_disks result h =
-        subst (λ more. NoneFell faults (disks_of old) (map (λ r. r.kept.disk) new.replicas ++ more)) (sym spare) (none_fell faults old.replicas new.replicas old.spare h.later)
+        subst (λ more. NoneFell faults (disks_of old) (map (λ r. r.kept.disk) new.replicas ++ more)) (sym spare) (none_fell faults sense.honest old.replicas new.replicas old.spare h.later)
+
+    pub step_honest : (result : Result T RunStop) → Handled result → AreAsHonest sense.honest (disks_of old) (disks_of new)
+    step_honest result h =
+        subst (λ more. AreAsHonest sense.honest (disks_of old) (map (λ r. r.kept.disk) new.replicas ++ more)) (sym spare) (all_as_honest faults sense.honest old.replicas new.replicas old.spare h.later)
 
 -- a line that makes a message has room for it
 module _ {D : Type 0} (site : Site D) where

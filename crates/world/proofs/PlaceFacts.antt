@@ -6,7 +6,7 @@ use Rattle.std.specs.Str.{bytes_eq}
 use Rattle.outside.specs.Causes.{Rose}
 use Rattle.replica.specs.Kept.{Kept}
 use Rattle.script_texts.specs.Bytes.{Bytes}
-use Rattle.world.specs.Stops.{NoneFell, SomeRose}
+use Rattle.world.specs.Stops.{AreAsHonest, NoneFell, SomeRose}
 use Rattle.world.specs.Worlds.{AreAlike, AreUp, EachPair, Named, kept_of, with_kept}
 use Rattle.world.specs.working.Handling.{AreLater}
 use Rattle.world.specs.working.Places.{is_named, place_in}
@@ -150,13 +150,11 @@ module _ {D : Type 0} where
   pair_at are same (r ∷ rs) name before after is to = pair_first are same (bytes_eq r.name name) r rs name before after is to (λ there. pair_at are same rs name before after there to)
 
   pub alike_same : (rs : List (Named D)) → AreAlike rs rs
-  alike_same rs = pair_same (λ r s. s ≡ record { name = r.name; kept = record r.kept { down = s.kept.down; disk = s.kept.disk; outline = s.kept.outline } }) (λ r. refl) rs
+  alike_same rs = inl refl
 
   pub alike_at : (rs : List (Named D)) (name : Bytes) (before after : Kept D) → kept_of rs name ≡ Some before → after ≡ record before { down = after.down; disk = after.disk; outline = after.outline }
       → AreAlike rs (with_kept rs name after)
-  alike_at rs name before after is same =
-      pair_at (λ r s. s ≡ record { name = r.name; kept = record r.kept { down = s.kept.down; disk = s.kept.disk; outline = s.kept.outline } }) (λ r. refl) rs name before after is
-      (λ x own. ap (λ (k : Kept D). record x { kept = k }) (same ∙ ap (λ (k : Kept D). record k { down = after.down; disk = after.disk; outline = after.outline }) (sym own)))
+  alike_at rs name before after is same = inr (name, (before, after, is, same, refl))
 
   -- ---- those that are up
 
@@ -181,13 +179,14 @@ module _ {D : Type 0} where
   -- ---- counts of faults
 
   module _ (faults : D → ℕ) where
-    pub later_at : (rs : List (Named D)) (name : Bytes) (before after : Kept D) → kept_of rs name ≡ Some before → faults before.disk ≤ faults after.disk → AreLater faults rs (with_kept rs name after)
-    later_at rs name before after is later =
-        pair_at (λ r s. (s.name ≡ r.name) × (faults r.kept.disk ≤ faults s.kept.disk)) (λ r. (refl, omega arith)) rs name before after is
-        (λ x own. (refl, subst (λ (k : Kept D). faults k.disk ≤ faults after.disk) (sym own) later))
+    pub later_at : (honest : D → Bool) (rs : List (Named D)) (name : Bytes) (before after : Kept D) → kept_of rs name ≡ Some before → faults before.disk ≤ faults after.disk → honest after.disk ≡ honest before.disk
+        → AreLater faults honest rs (with_kept rs name after)
+    later_at honest rs name before after is later same =
+        pair_at (λ r s. (s.name ≡ r.name) × (faults r.kept.disk ≤ faults s.kept.disk) × (honest s.kept.disk ≡ honest r.kept.disk)) (λ r. (refl, omega arith, refl)) rs name before after is
+        (λ x own. (refl, subst (λ (k : Kept D). faults k.disk ≤ faults after.disk) (sym own) later, subst (λ (k : Kept D). honest after.disk ≡ honest k.disk) (sym own) same))
 
-    pub later_same : (rs : List (Named D)) → AreLater faults rs rs
-    later_same rs = pair_same (λ r s. (s.name ≡ r.name) × (faults r.kept.disk ≤ faults s.kept.disk)) (λ r. (refl, omega arith)) rs
+    pub later_same : (honest : D → Bool) (rs : List (Named D)) → AreLater faults honest rs rs
+    later_same honest rs = pair_same (λ r s. (s.name ≡ r.name) × (faults r.kept.disk ≤ faults s.kept.disk) × (honest s.kept.disk ≡ honest r.kept.disk)) (λ r. (refl, omega arith, refl)) rs
 
     rose_first : (b : Bool) (r : Named D) (rs : List (Named D)) (name : Bytes) (before after : Kept D) → option_map (λ (x : Named D). x.kept) (cond b (Some r) (find (λ x. bytes_eq x.name name) rs)) ≡ Some before
         → Rose (faults before.disk) (faults after.disk)
@@ -207,14 +206,20 @@ module _ {D : Type 0} where
     rose_more (d ∷ ds) (e ∷ es) more (inl rose) = inl rose
     rose_more (d ∷ ds) (e ∷ es) more (inr rose) = inr (rose_more ds es more rose)
 
-    pub none_fell : (old new : List (Named D)) (more : List D) → AreLater faults old new → NoneFell faults (map (λ (r : Named D). r.kept.disk) old ++ more) (map (λ (r : Named D). r.kept.disk) new ++ more)
-    none_fell [] [] more later = pair_same (λ d e. faults d ≤ faults e) (λ d. omega arith) more
-    none_fell [] (s ∷ ss) more later = absurd later
-    none_fell (r ∷ rs) [] more later = absurd later
-    none_fell (r ∷ rs) (s ∷ ss) more later = (later.0.1, none_fell rs ss more later.1)
+    pub none_fell : (honest : D → Bool) (old new : List (Named D)) (more : List D) → AreLater faults honest old new → NoneFell faults (map (λ (r : Named D). r.kept.disk) old ++ more) (map (λ (r : Named D). r.kept.disk) new ++ more)
+    none_fell honest [] [] more later = pair_same (λ d e. faults d ≤ faults e) (λ d. omega arith) more
+    none_fell honest [] (s ∷ ss) more later = absurd later
+    none_fell honest (r ∷ rs) [] more later = absurd later
+    none_fell honest (r ∷ rs) (s ∷ ss) more later = (later.0.1, none_fell honest rs ss more later.1)
 
-    pub names_stay : (old new : List (Named D)) → AreLater faults old new → map (λ (r : Named D). r.name) new ≡ map (λ (r : Named D). r.name) old
-    names_stay [] [] later = refl
-    names_stay [] (s ∷ ss) later = absurd later
-    names_stay (r ∷ rs) [] later = absurd later
-    names_stay (r ∷ rs) (s ∷ ss) later = ap (λ n. n ∷ map (λ (x : Named D). x.name) ss) later.0.0 ∙ ap (λ ns. r.name ∷ ns) (names_stay rs ss later.1)
+    pub all_as_honest : (honest : D → Bool) (old new : List (Named D)) (more : List D) → AreLater faults honest old new → AreAsHonest honest (map (λ (r : Named D). r.kept.disk) old ++ more) (map (λ (r : Named D). r.kept.disk) new ++ more)
+    all_as_honest honest [] [] more later = pair_same (λ d e. honest e ≡ honest d) (λ d. refl) more
+    all_as_honest honest [] (s ∷ ss) more later = absurd later
+    all_as_honest honest (r ∷ rs) [] more later = absurd later
+    all_as_honest honest (r ∷ rs) (s ∷ ss) more later = (later.0.2, all_as_honest honest rs ss more later.1)
+
+    pub names_stay : (honest : D → Bool) (old new : List (Named D)) → AreLater faults honest old new → map (λ (r : Named D). r.name) new ≡ map (λ (r : Named D). r.name) old
+    names_stay honest [] [] later = refl
+    names_stay honest [] (s ∷ ss) later = absurd later
+    names_stay honest (r ∷ rs) [] later = absurd later
+    names_stay honest (r ∷ rs) (s ∷ ss) later = ap (λ n. n ∷ map (λ (x : Named D). x.name) ss) later.0.0 ∙ ap (λ ns. r.name ∷ ns) (names_stay honest rs ss later.1)

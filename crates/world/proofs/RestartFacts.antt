@@ -114,6 +114,7 @@ module _ {D : Type 0} (sense : Sense D) (good : List ℕ → List ℕ → List �
   fares : Fares sense good faults reached old name before after
   fares = record {
     later = restarts.treats.later;
+    as_honest = restarts.treats.as_honest;
     crash = λ safe.
         let w = restarts.treats.crash safe.0 in (
           (w.trusted, w.survives),
@@ -124,6 +125,7 @@ module _ {D : Type 0} (sense : Sense D) (good : List ℕ → List ℕ → List �
     where
       reaches : (f : Front) → f ≡ front_of before.held → Reaches good reached old name before f
       reaches f same = record { kept = before; there = subst reached (sym (unchanged old name before changes.2)) (inl refl); judged = refl; holds = sym same }
+
       to : IsTrusted good sense before → (image : List ℕ) → OpensToOf good sense before image ⊎ OpensToOf good sense after image
           → (f : Front) × Reaches good reached old name before f × OpensAs (criteria_of good before) image (Opens f)
       to trusted image (inl (f, may, opens)) = (f, reaches f (open_front before f own may), opens)
@@ -139,6 +141,7 @@ module _ {D : Type 0} (sense : Sense D) (good : List ℕ → List ℕ → List �
     where
       plain : after.down ≡ None → Weathers sense good faults {T = ℕ} ⊥ reached old name (Err refusal.NoMemory) new
       plain down = record { before = before; after = after; is = changes.2; set = set; up = inl down; cause = tt; fares = fares }
+
       by : (r : Result ℕ Refusal) → Restarts before r after → (IsDiskFault r → Rose (faults before.disk) (faults after.disk))
           → Weathers sense good faults {T = ℕ} ⊥ reached old name (Err refusal.NoMemory) new ⊎ ((step : DiskStep) × Weathers sense good faults {T = ℕ} ⊥ reached old name (Err (refusal.DiskFault step)) new)
       by (Ok count) (held, counted, run, is) rose = inl (plain (ap (λ (k : Kept D). k.down) is.same))

@@ -172,7 +172,7 @@ module _ {D : Type 0} (sense : Sense D) (faults : D → ℕ) (tags : Tags) (a b 
         half r held given = record {
           response = t.response;
           answer = t.answer;
-          take = (come.now, record come.now { held = held; down = None }, at_now, (come.up, (held, given, record { same = refl })), refl);
+          take = (come.now, record come.now { held = held; down = None }, at_now, (come.up, (held, given, record { same = refl; still = λ front. refl })), refl);
         }
 
     pub has_taken : (new : List (Named D)) (reply : Result Taken Refusal) → TakesAnswer sense tags.good faults a b old request reply new → HasTaken first old new come.before come.now reply
@@ -220,6 +220,7 @@ module _ {D : Type 0} (sense : Sense D) (faults : D → ℕ) (tags : Tags) (a b 
       where
         no_fault : (step : DiskStep) → ◌≡◌ {A = Result Taken Refusal} (Ok taken) (Err (refusal.DiskFault step)) → ⊥
         no_fault step e = absurd cc
+
         by : (t.after.down ≡ None) ⊎ IsDiskFault {T = Taken} (Ok taken) → t.after.down ≡ None
         by (inl up) = up
         by (inr (step, is)) = absurd (no_fault step is)
@@ -310,6 +311,7 @@ module _ {D : Type 0} (sense : Sense D) (faults : D → ℕ) (tags : Tags) (a b 
       where
         refused : (x after : Kept D) → kept_of old a ≡ Some x → new ≡ with_kept old a after → after ≡ x → TakesIn x tags.good t.response (Err why) x → RunsSession tags a b first (Err why) new
         refused x after is set same step = inl (subst (Session tags.good a b first (Err why)) (sym (set ∙ ap (with_kept old a) same ∙ unchanged old a x is)) (no_take come.goes t.answer (x, is, step)))
+
         by : Changes old a (λ before after. TakesIn before tags.good t.response (Err why) after × Treats sense tags.good faults {T = Taken} before after (Err why)) new → RunsSession tags a b first (Err why) new
         by (x, after, is, (inl (was, because, same), treats), set) = refused x after is set same (inl (was, because, refl))
         by (x, after, is, (inr (inr (says, same)), treats), set) = refused x after is set same (inr (inr (says, refl)))
@@ -393,6 +395,7 @@ no_text a b text reply why is silent words = by (sym silent_line ∙ words)
   where
     silent_line : synced_line a b reply ≡ None
     silent_line = ap (synced_line a b) is ∙ ap (option_map (refused_text (codes "sync") (a ∷ b ∷ []))) silent
+
     by : ◌≡◌ {A = Option Bytes} None (Some text) → ⊥
     by e = absurd cc
 

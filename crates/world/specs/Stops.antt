@@ -26,6 +26,10 @@ SomeRose faults (d ∷ ds) (e ∷ es) = Rose (faults d) (faults e) ⊎ SomeRose 
 abbrev pub NoneFell : {D : Type 0} → (D → ℕ) → List D → List D → Type 0
 NoneFell faults old new = EachPair (λ d e. faults d ≤ faults e) old new
 
+-- Each is as honest as it was.
+abbrev pub AreAsHonest : {D : Type 0} → (D → Bool) → List D → List D → Type 0
+AreAsHonest honest old new = EachPair (λ d e. honest e ≡ honest d) old new
+
 -- A stop has its cause: a failed seal, that the envelope's count rose; a failed disk, that the count of some disk rose. What refuses a journal is said
 -- beside; want of memory has no cause.
 abbrev pub HasCause : {D : Type 0} → ℕ → ℕ → (D → ℕ) → List D → List D → RunStop → Type 0

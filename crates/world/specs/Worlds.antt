@@ -1,5 +1,5 @@
 -- What a world is: replicas by name, and the messages that were made.
-use Rattle.std.specs.Prelude.{◌≡◌, ℕ, ◌+◌, ◌-◌, ◌==◌, if◌then◌else◌, List, [], ◌∷◌, ◌++◌, find, length, map, slice_get, Option, Some, None, option_and_then, option_map}
+use Rattle.std.specs.Prelude.{◌≡◌, ◌⊎◌, ℕ, ◌+◌, ◌-◌, ◌==◌, if◌then◌else◌, List, [], ◌∷◌, ◌++◌, find, length, map, slice_get, Option, Some, None, option_and_then, option_map}
 use Rattle.std.specs.Str.{bytes_eq}
 use Rattle.replica.specs.Kept.{Kept}
 use Rattle.script.specs.Scripts.{Declared}
@@ -72,9 +72,9 @@ abbrev pub AreUp : {D : Type 0} → List (Named D) → Type 0
 AreUp [] = Unit {0}
 AreUp (r ∷ rs) = (r.kept.down ≡ None) × AreUp rs
 
--- They hold the same, whatever became of their disks.
+-- They are the same; or they hold the same, and of one replica at most the disk is another, and whether it is down.
 abbrev pub AreAlike : {D : Type 0} → List (Named D) → List (Named D) → Type 0
-AreAlike old new = EachPair (λ r s. s ≡ record { name = r.name; kept = record r.kept { down = s.kept.down; disk = s.kept.disk; outline = s.kept.outline } }) old new
+AreAlike {D = D} old new = (new ≡ old) ⊎ ((a : Bytes) × Changes old a (λ kept fallen. fallen ≡ record kept { down = fallen.down; disk = fallen.disk; outline = fallen.outline }) new)
 
 -- All disks, in their order.
 abbrev pub disks_of : {D : Type 0} → Site D → List D

@@ -103,7 +103,7 @@ pub fn open_all<R: Runner, G: Graph, F: FactBase, D: Disk, E: Envelope>(
     requires runners { length runners.items ≡ length names.now }
     requires disks { length names.now ≤ length disks.items }
     ensures opens { (policy : List PlacedItem) → All (λ r. R.rules r ≡ policy) runners.items → OpensAll (record { tells = D.tells; content = D.content; honest = D.honest }) E.good D.faults policy digest.now names.now disks.items result }
-    ensures counts { CountsAll D.faults disks.items result }
+    ensures counts { CountsAll (record { tells = D.tells; content = D.content; honest = D.honest }) E.good D.faults names.now disks.items result }
     ensures room { IfOk result (λ both. length both.0.items + length both.1.items ≤ vec_capacity both.1) }
 {
     let mut replicas = match Vec::with_capacity(alloc, names.len()) {

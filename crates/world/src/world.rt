@@ -1,12 +1,13 @@
-ghost use Rattle.std.specs.Prelude.{◌≡◌, ◌≤◌, ◌<◌, ◌+◌, ℕ, All, Err, IfErr, IfOk, IsTrue, List, OnOk, length, map, true};
+ghost use Rattle.std.specs.Prelude.{◌≡◌, ◌≤◌, ◌<◌, ◌+◌, ℕ, All, Err, IfErr, IfOk, IsTrue, List, OnErr, OnOk, drop, length, map, true};
 ghost use Rattle.std.specs.List.{AllByRecursion};
 ghost use Rattle.journal.specs.declared.fault.OpenFault.{OpenFault};
 ghost use Rattle.policy_ast.specs.declared.policy.PlacedItem.{PlacedItem};
+ghost use Rattle.replica.specs.Disks.{AreSoundFronts};
 ghost use Rattle.script.specs.Scripts.{with_line};
 ghost use Rattle.world.specs.Lines.{Tags, may_run};
 ghost use Rattle.world.specs.Crashes.{AreSafe, OpenAtEachMoment, OpenWhole, OpensWorld, opened_disks};
-ghost use Rattle.world.specs.Stops.{Acts, HasCause, IsFront, IsSteady, NoneFell, RefusesJournal, Steps as IsStepOf};
-ghost use Rattle.world.specs.Worlds.{AreUp, declared, disks_of};
+ghost use Rattle.world.specs.Stops.{Acts, AreAsHonest, HasCause, IsFront, IsSteady, NoneFell, RefusesJournal, Steps as IsStepOf};
+ghost use Rattle.world.specs.Worlds.{AreUp, declared, disks_of, with_message};
 ghost use Rattle.world.specs.declared.stop.RunStop.TheVariants as stop;
 ghost use Rattle.world.specs.working.Kinds.{Keeping, is_changing, is_making, is_showing};
 ghost use Rattle.world.specs.working.Passing.{RunsOn, StepsOn};
@@ -16,7 +17,7 @@ use crate::opening::{open_all, put_back};
 use crate::running::{changing_line, is_making, is_showing, said_line, shown_line};
 use crate::said::Said;
 use crate::stop::RunStop;
-use base_bytes::{Bytes, Id, Steps, Text};
+use base_bytes::{Bytes, Id, NoMemory, Steps, Text};
 use command::Graph;
 use fact_store::FactBase;
 use outside::{Disk, Envelope};
@@ -51,6 +52,15 @@ impl<R: Runner, G: Graph, F: FactBase, D: Disk> Model for World<R, G, F, D> {
     ghost invariant = { λ w. length w.replicas.items + length w.spare.items ≤ vec_capacity w.spare };
 }
 
+/// Puts a message behind the others, or none under the next number.
+fn put_message(messages: &mut Vec<Option<Bytes>>, message: Option<Bytes>) -> Result<(), NoMemory>
+    ensures put { OnOk result (messages.new.items ≡ with_message messages.old.items message) }
+    ensures same { OnErr result (messages.new.items ≡ messages.old.items) }
+{
+    messages.push(message)?;
+    Ok(())
+}
+
 impl<R: Runner, G: Graph, F: FactBase, D: Disk> World<R, G, F, D> {
     /// The replicas of these names, each under its runner's policy, whose document has this digest, and opened on the disk at its place, in order; no
     /// messages were made. The disks behind those are left as they are. Where the journal on a disk is refused, a disk fails or memory lacks, all disks are
@@ -67,9 +77,12 @@ impl<R: Runner, G: Graph, F: FactBase, D: Disk> World<R, G, F, D> {
         requires disks { length names.now ≤ length disks.items }
         ensures opens { (policy : List PlacedItem) → All (λ r. R.rules r ≡ policy) runners.items → OpensWorld (record { tells = D.tells; content = D.content; honest = D.honest }) E.good policy digest.now names.now disks.items result }
         ensures up { IfOk result (λ world. AreUp world.replicas) }
+        ensures sound { IfOk result (λ world. AllByRecursion (λ r. AreSoundFronts E.good r.kept) world.replicas) }
         ensures crash { (policy : List PlacedItem) → All (λ r. R.rules r ≡ policy) runners.items → IsTrue D.tells → AllByRecursion (λ d. IsTrue (D.honest d)) disks.items
             → OpenWhole (record { tells = D.tells; content = D.content; honest = D.honest }) E.good policy digest.now disks.items (opened_disks result) × IfOk result (λ world. AreSafe (record { tells = D.tells; content = D.content; honest = D.honest }) E.good world.replicas) }
+        ensures spare { drop (length names.now) (opened_disks result) ≡ drop (length names.now) disks.items }
         ensures disks { NoneFell D.faults disks.items (opened_disks result) }
+        ensures honest { AreAsHonest D.honest disks.items (opened_disks result) }
         ensures cause { IfErr result (λ refused. HasCause 0 0 D.faults disks.items refused.1.items refused.0) }
     {
         match open_all(alloc, runners, names, digest, disks, env) {
@@ -93,10 +106,9 @@ impl<R: Runner, G: Graph, F: FactBase, D: Disk> World<R, G, F, D> {
     fn keep(&mut self, said: Said) -> Result<Bytes, RunStop>
         ensures { Keeping self.old said result self.new }
     {
-        match self.messages.push(said.message) {
-            Ok(()) => Ok(said.text),
-            Err(_) => Err(RunStop::NoMemory),
-        }
+        let Said { text, message } = said;
+        put_message(&mut self.messages, message)?;
+        Ok(text)
     }
 
     /// Runs a line that makes a message.
@@ -218,6 +230,7 @@ impl<R: Runner, G: Graph, F: FactBase, D: Disk> World<R, G, F, D> {
         ensures up { OnOk result (AreUp self.new.replicas) }
         ensures later { E.faults env.old ≤ E.faults env.new }
         ensures disks { NoneFell D.faults (disks_of self.old) (disks_of self.new) }
+        ensures honest { AreAsHonest D.honest (disks_of self.old) (disks_of self.new) }
         ensures cause { IfErr result (HasCause (E.faults env.old) (E.faults env.new) D.faults (disks_of self.old) (disks_of self.new)) }
         ensures seals { IfErr result (λ why. why ≡ stop.SealFault → Acts line.now) }
         ensures journals { (name : List ℕ) (cause : OpenFault) → result ≡ Err (stop.Journal name cause) → RefusesJournal (record { tells = D.tells; content = D.content; honest = D.honest }) E.good self.old.replicas line.now name cause }

@@ -21,9 +21,9 @@ use Rattle.world.specs.working.Stopping.{IsCausedBy, IsStopFor}
 abbrev pub IsDiskFault : {T : Type 0} → Result T Refusal → Type 0
 IsDiskFault reply = (step : DiskStep) × (reply ≡ Err (refusal.DiskFault step))
 
--- The names stay, and no count of faults falls.
-abbrev pub AreLater : {D : Type 0} → (D → ℕ) → List (Named D) → List (Named D) → Type 0
-AreLater faults old new = EachPair (λ r s. (s.name ≡ r.name) × (faults r.kept.disk ≤ faults s.kept.disk)) old new
+-- The names stay, no count of faults falls, and each disk is as honest as it was.
+abbrev pub AreLater : {D : Type 0} → (D → ℕ) → (D → Bool) → List (Named D) → List (Named D) → Type 0
+AreLater faults honest old new = EachPair (λ r s. (s.name ≡ r.name) × (faults r.kept.disk ≤ faults s.kept.disk) × (honest s.kept.disk ≡ honest r.kept.disk)) old new
 
 module _ {D : Type 0} (good : List ℕ → List ℕ → List ℕ → Bool) where
   -- Replicas that were reached differ from the old ones in the replica of this name alone, which holds this front there.
@@ -46,9 +46,10 @@ module _ {D : Type 0} (sense : Sense D) (good : List ℕ → List ℕ → List �
       (told ≡ name) × IsRefusedJournal cause × Of replicas name (λ kept. (IsTrue sense.tells → AnswersOpening (criteria_of good kept) (sense.content kept.disk).reads (Err cause)) × (IsTrusted good sense kept → ⊥))
 
   module _ (faults : D → ℕ) where
-    -- A call: the count of the disk's faults doesn't fall, and rose where the call says that the disk failed. A disk that was trusted withstands it.
+    -- A call: the count of the disk's faults doesn't fall, and rose where the call says that the disk failed. The disk is as honest as it was. A disk that was trusted withstands it.
     pub record Treats {T : Type 0} (old new : Kept D) (reply : Result T Refusal) : Type 0 where
       pub later : faults old.disk ≤ faults new.disk
+      pub as_honest : sense.honest new.disk ≡ sense.honest old.disk
       pub cause : IsDiskFault reply → Rose (faults old.disk) (faults new.disk)
       pub crash : IsTrusted good sense old → Withstands good sense old new
 
@@ -63,6 +64,7 @@ module _ {D : Type 0} (sense : Sense D) (good : List ℕ → List ℕ → List �
     -- front that was reached.
     pub record Fares (reached : List (Named D) → Type 0) (old : List (Named D)) (name : Bytes) (before after : Kept D) : Type 0 where
       pub later : faults before.disk ≤ faults after.disk
+      pub as_honest : sense.honest after.disk ≡ sense.honest before.disk
       pub crash : IsSafe before → IsSafe after
           × LeavesOnly (sense.content before.disk) (sense.content after.disk) (λ image. (front : Front) × Reaches good reached old name before front × OpensAs (criteria_of good before) image (Opens front))
 
@@ -80,7 +82,7 @@ module _ {D : Type 0} (sense : Sense D) (good : List ℕ → List ℕ → List �
 
     -- A line, whatever it answers.
     pub record Handles {T : Type 0} (sealed : Type 0) (refused : List ℕ → OpenFault → Type 0) (reached : List (Named D) → Type 0) (old : List (Named D)) (result : Result T RunStop) (new : List (Named D)) : Type 0 where
-      pub later : AreLater faults old new
+      pub later : AreLater faults sense.honest old new
       pub up : OnOk result (AreUp new)
       pub cause : IfErr result (IsStopFor sealed (SomeRose faults (map (λ r. r.kept.disk) old) (map (λ r. r.kept.disk) new)) refused)
       pub crash : AreSafe sense good old → AreSafe sense good new × OpenAtEachMoment sense good reached old new

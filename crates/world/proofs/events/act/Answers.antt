@@ -11,7 +11,7 @@ returns g c =
         c.behind-replicas.inside.replica,
         c.act.new.self,
         kept_there c.args.replicas.now.items c.args.name.now c.place_of-place.result c.behind-replicas.inside.name c.behind-replicas.inside.replica c.index_mut.result.now c.requires.there at c.behind-replicas.view_is c.index_mut.ensures.value,
-        (c.act.ensures.step, record { later = c.act.ensures.disk.later; cause = λ fell. (c.act.ensures.disk.cause fell.0 fell.1).0; crash = c.act.ensures.crash }),
+        (c.act.ensures.step, record { later = c.act.ensures.disk.later; as_honest = c.act.ensures.honest; cause = λ fell. (c.act.ensures.disk.cause fell.0 fell.1).0; crash = c.act.ensures.crash }),
         set_there c.args.replicas.now.items c.args.name.now c.place_of-place.result c.behind-replicas.inside.name c.behind-replicas.inside.replica c.index_mut.result.now c.act.new.self c.requires.there at c.behind-replicas.view_is c.index_mut.ensures.value,
       );
       later = c.act.ensures.later;

@@ -11,7 +11,7 @@ returns g c =
         c.behind-replicas.inside.replica,
         c.init.new.self,
         kept_there c.args.replicas.now.items c.args.name.now c.place_of-place.result c.behind-replicas.inside.name c.behind-replicas.inside.replica c.index_mut.result.now c.requires.there at c.behind-replicas.view_is c.index_mut.ensures.value,
-        (c.init.ensures.step, record { later = c.init.ensures.disk.later; cause = λ fell. (c.init.ensures.disk.cause fell.0 fell.1).0; crash = c.init.ensures.crash }),
+        (c.init.ensures.step, record { later = c.init.ensures.disk.later; as_honest = c.init.ensures.honest; cause = λ fell. (c.init.ensures.disk.cause fell.0 fell.1).0; crash = c.init.ensures.crash }),
         set_there c.args.replicas.now.items c.args.name.now c.place_of-place.result c.behind-replicas.inside.name c.behind-replicas.inside.replica c.index_mut.result.now c.init.new.self c.requires.there at c.behind-replicas.view_is c.index_mut.ensures.value,
       );
       later = c.init.ensures.later;

@@ -11,7 +11,7 @@ returns g c =
         c.behind-replicas.inside.replica,
         c.join.new.self,
         kept_there c.args.replicas.now.items c.args.name.now c.place_of-place.result c.behind-replicas.inside.name c.behind-replicas.inside.replica c.index_mut.result.now c.requires.there at c.behind-replicas.view_is c.index_mut.ensures.value,
-        (c.join.ensures.step, record { later = c.join.ensures.disk.later; cause = λ fell. (c.join.ensures.disk.cause fell.0 fell.1).0; crash = c.join.ensures.crash good }),
+        (c.join.ensures.step, record { later = c.join.ensures.disk.later; as_honest = c.join.ensures.honest; cause = λ fell. (c.join.ensures.disk.cause fell.0 fell.1).0; crash = c.join.ensures.crash good }),
         set_there c.args.replicas.now.items c.args.name.now c.place_of-place.result c.behind-replicas.inside.name c.behind-replicas.inside.replica c.index_mut.result.now c.join.new.self c.requires.there at c.behind-replicas.view_is c.index_mut.ensures.value,
       );
     }

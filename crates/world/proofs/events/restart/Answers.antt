@@ -11,7 +11,7 @@ returns g c =
         c.behind-replicas.inside.replica,
         c.restart.new.self,
         kept_there c.args.replicas.now.items c.args.name.now c.place_of-place.result c.behind-replicas.inside.name c.behind-replicas.inside.replica c.index_mut.result.now c.requires.there at c.behind-replicas.view_is c.index_mut.ensures.value,
-        record { restarts = c.restart.ensures.step; opens = c.restart.ensures.opens; stays = c.restart.ensures.stays; treats = record { later = c.restart.ensures.disk.later; cause = λ fell. (c.restart.ensures.disk.cause fell.0 fell.1).0; crash = c.restart.ensures.crash } },
+        record { restarts = c.restart.ensures.step; opens = c.restart.ensures.opens; stays = c.restart.ensures.stays; treats = record { later = c.restart.ensures.disk.later; as_honest = c.restart.ensures.honest; cause = λ fell. (c.restart.ensures.disk.cause fell.0 fell.1).0; crash = c.restart.ensures.crash } },
         set_there c.args.replicas.now.items c.args.name.now c.place_of-place.result c.behind-replicas.inside.name c.behind-replicas.inside.replica c.index_mut.result.now c.restart.new.self c.requires.there at c.behind-replicas.view_is c.index_mut.ensures.value,
       );
     }

@@ -11,7 +11,7 @@ returns g c =
         c.behind-replicas.inside.replica,
         c.take.new.self,
         kept_there c.args.replicas.now.items c.args.name.now c.place_of-place.result c.behind-replicas.inside.name c.behind-replicas.inside.replica c.index_mut.result.now c.requires.there at c.behind-replicas.view_is c.index_mut.ensures.value,
-        (c.take.ensures.step, record { later = c.take.ensures.disk.later; cause = λ fell. (c.take.ensures.disk.cause fell.0 fell.1).0; crash = c.take.ensures.crash }),
+        (c.take.ensures.step, record { later = c.take.ensures.disk.later; as_honest = c.take.ensures.honest; cause = λ fell. (c.take.ensures.disk.cause fell.0 fell.1).0; crash = c.take.ensures.crash }),
         set_there c.args.replicas.now.items c.args.name.now c.place_of-place.result c.behind-replicas.inside.name c.behind-replicas.inside.replica c.index_mut.result.now c.take.new.self c.requires.there at c.behind-replicas.view_is c.index_mut.ensures.value,
       );
     }

@@ -22,3 +22,8 @@ pub returns-clause-runs : goal.returns-clause-runs
 returns-clause-runs g c =
     changed_by (record { good = g.E.Envelope.good; told = g.E.Envelope.tag_of }) (record { tells = g.D.Disk.tells; content = g.D.Disk.content; honest = g.D.Disk.honest }) g.D.Disk.faults (g.E.Envelope.faults c.args.env.now) (g.E.Envelope.faults c.changing_line.new.env) c.args.line.now c.self.inside.replicas.items c.changing_line.new.replicas.items c.self.inside.messages.items c.as_slice.result.now c.self.inside.spare.items
     c.changing_line.result c.args.self.now (sym c.self.view_is) c.as_slice.ensures.value c.requires.changing c.changing_line.ensures.fits
+
+pub changing_line-requires-clause-place : goal.changing_line-requires-clause-place
+changing_line-requires-clause-place g c =
+    subst (λ messages. may_follow (declared (site_of c.self.inside.replicas.items messages)) c.args.line.now ≡ true) (sym c.as_slice.ensures.value)
+    (subst (λ site. may_run site c.args.line.now ≡ true) (sym c.self.view_is) c.requires.place)
