@@ -1,4 +1,3 @@
-// NOTE FROM THE FOUNDER (02:26): see /work/helpers/a/NOTE.md (remove this line)
 //! The lines of a script, run in a world of the replicas that they declare.
 
 ghost use Rattle.std.specs.Prelude.{◌≡◌, ◌<◌, ℕ, All, List, Ok, Err, IsTrue, length};

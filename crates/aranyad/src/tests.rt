@@ -1,4 +1,3 @@
-// NOTE FROM THE FOUNDER (02:26): see /work/helpers/a/NOTE.md (remove this line)
 // Tables of runs of `run_command` on the objects in memory.
 ghost use Rattle.std.specs.Prelude.{◌≡◌, length};
 
