@@ -4,7 +4,7 @@ ghost use Rattle.std.specs.Prelude.{◌≡◌, ◌<◌};
 use crate::calls::Call::{Act, Ask, Init, Restart};
 use crate::calls::Value::Int;
 use crate::calls::{Call, call_one};
-use crate::parties::{Opened, Party, opened};
+use crate::parties::{Opening, Party, opened};
 use crate::said::Said;
 use crate::said::Said::{Holds, Published, Refused};
 use base_bytes::{Bytes, NoMemory, Steps};
@@ -84,7 +84,7 @@ fn calls_met<L: Ledger>(
 /// Whether the disk opens to a replica that holds so many commands.
 fn opens_to(alloc: Global, disk: MemoryDisk, held: usize) -> Result<bool, NoMemory> {
     match opened(alloc, PRIORITIES, "a", disk)? {
-        Opened::Party(party) => Ok(party.state().graph().len() == held),
+        Opening::Party(party) => Ok(party.state().graph().len() == held),
         _ => Ok(false),
     }
 }
@@ -99,8 +99,8 @@ fn run_by<L: Ledger>(alloc: Global, failing: u64, blank: Blank) -> Result<Run, N
     numbers.push(failing)?;
     let disk = MemoryDisk::new(alloc, Bytes::new(alloc), numbers);
     let mut party = match opened(alloc, PRIORITIES, "a", disk)? {
-        Opened::Party(party) => party,
-        Opened::Refused(OpenFault::DiskFault(_), _) => return Ok(Run::Unopened),
+        Opening::Party(party) => party,
+        Opening::Refused(OpenFault::DiskFault(_), _) => return Ok(Run::Unopened),
         _ => return Ok(Run::Wrong),
     };
     let mut steps = Steps::<L>::start(blank);
@@ -142,7 +142,7 @@ fn a_disk_that_fails_at_any_call_loses_nothing(rt: HostRuntime) -> Result<(), Fa
 fn journal(alloc: Global) -> Result<Option<Bytes>, NoMemory> {
     let disk = MemoryDisk::new(alloc, Bytes::new(alloc), Vec::new(alloc));
     let mut party = match opened(alloc, PRIORITIES, "a", disk)? {
-        Opened::Party(party) => party,
+        Opening::Party(party) => party,
         _ => return Ok(None),
     };
     made_by::<Brand>(alloc, &mut party, Blank::new(1))?;
@@ -172,20 +172,20 @@ fn made_by<L: Ledger>(alloc: Global, party: &mut Party, blank: Blank) -> Result<
 
 /// What a disk of these bytes opens to under a document, in short: how many commands, where it is damaged, or that it is another policy's.
 #[derive(Clone, Copy, Debug, PartialEq, Eq)]
-enum Reads {
+enum Reading {
     Holds(usize),
     Damaged(u64),
     OtherPolicy,
     Nothing,
 }
 
-fn reads(alloc: Global, document: &str, bytes: Bytes) -> Result<Reads, NoMemory> {
+fn reads(alloc: Global, document: &str, bytes: Bytes) -> Result<Reading, NoMemory> {
     let disk = MemoryDisk::new(alloc, bytes, Vec::new(alloc));
     match opened(alloc, document, "a", disk)? {
-        Opened::Party(party) => Ok(Reads::Holds(party.state().graph().len())),
-        Opened::Refused(OpenFault::Damaged { offset }, _) => Ok(Reads::Damaged(offset)),
-        Opened::Refused(OpenFault::OtherPolicy { .. }, _) => Ok(Reads::OtherPolicy),
-        _ => Ok(Reads::Nothing),
+        Opening::Party(party) => Ok(Reading::Holds(party.state().graph().len())),
+        Opening::Refused(OpenFault::Damaged { offset }, _) => Ok(Reading::Damaged(offset)),
+        Opening::Refused(OpenFault::OtherPolicy { .. }, _) => Ok(Reading::OtherPolicy),
+        _ => Ok(Reading::Nothing),
     }
 }
 
@@ -203,8 +203,8 @@ fn with_byte(alloc: Global, journal: &[u8], place: usize, byte: u8) -> Result<By
 }
 
 /// What the journal of the priorities reads as: whole, cut at some places, with a gate or a byte of the last command's tag set, and under another policy.
-fn readings(alloc: Global) -> Result<[Reads; 8], NoMemory> {
-    let mut all = [Reads::Nothing; 8];
+fn readings(alloc: Global) -> Result<[Reading; 8], NoMemory> {
+    let mut all = [Reading::Nothing; 8];
     let Some(journal) = journal(alloc)? else {
         return Ok(all);
     };
@@ -232,14 +232,14 @@ fn a_disk_opens_to_what_it_reads_or_is_refused(rt: HostRuntime) -> Result<(), Fa
     assert_eq!(rt;
         all,
         [
-            Reads::Holds(2),
-            Reads::Holds(0),
-            Reads::Damaged(0),
-            Reads::Damaged(162),
-            Reads::Holds(0),
-            Reads::Damaged(296),
-            Reads::Damaged(162),
-            Reads::OtherPolicy,
+            Reading::Holds(2),
+            Reading::Holds(0),
+            Reading::Damaged(0),
+            Reading::Damaged(162),
+            Reading::Holds(0),
+            Reading::Damaged(296),
+            Reading::Damaged(162),
+            Reading::OtherPolicy,
         ]
     );
     Ok(())

@@ -39,7 +39,7 @@ fn runner_of(alloc: Global, document: &str) -> Result<Option<TreeRunner>, NoMemo
 
 /// What opening a replica comes to.
 #[derive(Drop)]
-pub enum Opened {
+pub enum Opening {
     Party(Party),
     Refused(OpenFault, MemoryDisk),
     /// The document is no policy.
@@ -52,15 +52,15 @@ pub fn opened(
     document: &str,
     name: &str,
     disk: MemoryDisk,
-) -> Result<Opened, NoMemory> {
+) -> Result<Opening, NoMemory> {
     let Some(runner) = runner_of(alloc, document)? else {
-        return Ok(Opened::NoPolicy);
+        return Ok(Opening::NoPolicy);
     };
     let name = Text::from_slice(alloc, name)?;
     let digest = sha256(document.as_bytes());
     match Replica::open_on::<TagEnvelope>(alloc, runner, &name, &digest, disk, &TagEnvelope) {
-        Ok(party) => Ok(Opened::Party(party)),
-        Err((fault, _, disk)) => Ok(Opened::Refused(fault, disk)),
+        Ok(party) => Ok(Opening::Party(party)),
+        Err((fault, _, disk)) => Ok(Opening::Refused(fault, disk)),
     }
 }
 
@@ -68,7 +68,7 @@ pub fn opened(
 pub fn party(alloc: Global, document: &str, name: &str) -> Result<Option<Party>, NoMemory> {
     let disk = MemoryDisk::new(alloc, Bytes::new(alloc), Vec::new(alloc));
     match opened(alloc, document, name, disk)? {
-        Opened::Party(party) => Ok(Some(party)),
+        Opening::Party(party) => Ok(Some(party)),
         _ => Ok(None),
     }
 }
