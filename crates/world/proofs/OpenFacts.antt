@@ -264,9 +264,9 @@ module _ {D : Type 0} (sense : Sense D) (good : List ℕ → List ℕ → List �
       all_up none =
           let same : so.before ≡ names = sym (no_rest so.before rest none) ∙ so.named in
           let behind : left ≡ drop (length names) disks =
-                  behind_all so.before so.firsts left so.paired ∙ ap (λ ds. drop (length so.before) ds) so.taken ∙ ap (λ (ns : List Bytes). drop (length ns) disks) same in
+          behind_all so.before so.firsts left so.paired ∙ ap (λ ds. drop (length so.before) ds) so.taken ∙ ap (λ (ns : List Bytes). drop (length ns) disks) same in
           let many : length (map (λ (r : Named D). r.kept.disk) replicas) ≡ length names =
-                  pairs_length (λ (d e : D). faults d ≤ faults e) so.firsts (map (λ (r : Named D). r.kept.disk) replicas) so.none_fell ∙ so.paired ∙ ap (λ (ns : List Bytes). length ns) same in
+          pairs_length (λ (d e : D). faults d ≤ faults e) so.firsts (map (λ (r : Named D). r.kept.disk) replicas) so.none_fell ∙ so.paired ∙ ap (λ (ns : List Bytes). length ns) same in
           record {
             behind = behind;
             beyond = sym (behind_all names (map (λ (r : Named D). r.kept.disk) replicas) left many) ∙ behind;
