@@ -143,7 +143,7 @@ fn restart<E: Envelope>(alloc: Global, party: &mut Party, env: &E) -> Said {
     }
 }
 
-pub fn call_one<E: Envelope, L: Ledger>(
+fn call_one<E: Envelope, L: Ledger>(
     alloc: Global,
     party: &mut Party,
     messages: &mut Vec<Bytes>,

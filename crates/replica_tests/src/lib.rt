@@ -4,8 +4,6 @@
 #[cfg(test)]
 mod calls;
 #[cfg(test)]
-mod disks;
-#[cfg(test)]
 mod parties;
 #[cfg(test)]
 mod refusals;

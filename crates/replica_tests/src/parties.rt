@@ -10,7 +10,7 @@ use policy_check::check;
 use policy_eval::TreeRunner;
 use policy_lex::tokens;
 use policy_parse::parse;
-use replica::{OpenFault, Replica};
+use replica::Replica;
 use std::alloc::Global;
 
 pub type Party = Replica<TreeRunner, ListGraph, Facts, MemoryDisk>;
@@ -37,38 +37,16 @@ fn runner_of(alloc: Global, document: &str) -> Result<Option<TreeRunner>, NoMemo
     }
 }
 
-/// What opening a replica comes to.
-#[derive(Drop)]
-pub enum Opening {
-    Party(Party),
-    Refused(OpenFault, MemoryDisk),
-    /// The document is no policy.
-    NoPolicy,
-}
-
-/// Opens the replica of this name under a document on a disk.
-pub fn opened(
-    alloc: Global,
-    document: &str,
-    name: &str,
-    disk: MemoryDisk,
-) -> Result<Opening, NoMemory> {
+/// The empty replica of this name under a document, and None where that is no policy, or memory lacks.
+pub fn party(alloc: Global, document: &str, name: &str) -> Result<Option<Party>, NoMemory> {
     let Some(runner) = runner_of(alloc, document)? else {
-        return Ok(Opening::NoPolicy);
+        return Ok(None);
     };
     let name = Text::from_slice(alloc, name)?;
     let digest = sha256(document.as_bytes());
-    match Replica::open_on::<TagEnvelope>(alloc, runner, &name, &digest, disk, &TagEnvelope) {
-        Ok(party) => Ok(Opening::Party(party)),
-        Err((fault, _, disk)) => Ok(Opening::Refused(fault, disk)),
-    }
-}
-
-/// The empty replica of this name under a document, and None where that is no policy, or memory lacks.
-pub fn party(alloc: Global, document: &str, name: &str) -> Result<Option<Party>, NoMemory> {
     let disk = MemoryDisk::new(alloc, Bytes::new(alloc), Vec::new(alloc));
-    match opened(alloc, document, name, disk)? {
-        Opening::Party(party) => Ok(Some(party)),
-        _ => Ok(None),
+    match Replica::open_on::<TagEnvelope>(alloc, runner, &name, &digest, disk, &TagEnvelope) {
+        Ok(party) => Ok(Some(party)),
+        Err(_) => Ok(None),
     }
 }
