@@ -169,7 +169,7 @@ module _ {D : Type 0} (sense : Sense D) (good : List ℕ → List ℕ → List �
   -- disks that were not used
   pub whole_same : (disks : List D) → OpenWhole sense good policy digest disks disks
   whole_same [] = tt
-  whole_same (d ∷ ds) = (no_calls (sense.content d) _ (λ image left. inl left), whole_same ds)
+  whole_same (d ∷ ds) = (record { moments = no_calls (sense.content d) _ (λ image left. inl left); kept = λ begun. refl }, whole_same ds)
 
   pub names_opened : (names : List (List ℕ)) (disks : List D) (replicas : List (Named D)) → AreOpened sense good policy digest names disks replicas → map (λ (x : Named D). x.name) replicas ≡ names
   names_opened [] disks [] opened = refl
