@@ -18,7 +18,7 @@ use Rattle.aranyad.specs.Checking.{Checks, ReadsOr}
 use Rattle.aranyad.specs.Ending.{ReadHalts}
 use Rattle.aranyad.specs.Loading.{Holds}
 use Rattle.aranyad.specs.Printing.{Goes, HaltsAtOnce, Prints, Says}
-use Rattle.aranyad.specs.Scripts.{LeavesDisks, RanUpTo, RunsOpened, names_of}
+use Rattle.aranyad.specs.Scripts.{LeavesDisks, LeavesUnopened, RanUpTo, RunsOpened, names_of}
 use Rattle.aranyad.specs.Scripts as scripts
 use Rattle.aranyad.specs.Written.{WritesFront}
 use Rattle.aranyad.specs.working.Following.{EndsBy, RunsIn}
@@ -197,17 +197,17 @@ module _ {D : Type 0} (sense : Sense D) (tags : Tags) (policy : List PlacedItem)
 
   -- it wasn't opened
   pub unopened_goes : (why : RunStop) (left : List D) (result : Result Ending Halt) (old new : Option (List ℕ)) → IsWhyNot sense tags.good policy digest (names_of lines) disks why →
-      OpenWhole sense tags.good policy digest disks left → Goes (EndsBy why) result old new → Goes (λ r ts. RunsOpened sense tags policy digest disks lines r ts left) result old new
-  unopened_goes stop.DiskFault left result old new why whole goes =
-      record { texts = goes.texts; is = inl (subst (λ r. HaltsAtOnce r goes.texts) (sym goes.is.0) goes.is.1, whole); printed = goes.printed }
-  unopened_goes stop.SealFault left result old new why whole goes = absurd why
-  unopened_goes (stop.Journal name cause) left result old new why whole goes = record { texts = goes.texts; is = inr (inl (name, cause, why, goes.is, whole)); printed = goes.printed }
-  unopened_goes stop.NoMemory left result old new why whole goes =
-      record { texts = goes.texts; is = inl (subst (λ r. HaltsAtOnce r goes.texts) (sym goes.is.0) goes.is.1, whole); printed = goes.printed }
+      LeavesUnopened sense tags policy digest disks lines left → Goes (EndsBy why) result old new → Goes (λ r ts. RunsOpened sense tags policy digest disks lines r ts left) result old new
+  unopened_goes stop.DiskFault left result old new why unopened goes =
+      record { texts = goes.texts; is = inl (subst (λ r. HaltsAtOnce r goes.texts) (sym goes.is.0) goes.is.1, unopened); printed = goes.printed }
+  unopened_goes stop.SealFault left result old new why unopened goes = absurd why
+  unopened_goes (stop.Journal name cause) left result old new why unopened goes = record { texts = goes.texts; is = inr (inl (name, cause, why, goes.is, unopened)); printed = goes.printed }
+  unopened_goes stop.NoMemory left result old new why unopened goes =
+      record { texts = goes.texts; is = inl (subst (λ r. HaltsAtOnce r goes.texts) (sym goes.is.0) goes.is.1, unopened); printed = goes.printed }
 
   -- there was no memory for opening it
   pub lacks_at_once : (old : Option (List ℕ)) → Goes (λ r ts. RunsOpened sense tags policy digest disks lines r ts disks) (Err halt.Memory) old old
-  lacks_at_once old = record { texts = []; is = inl (refl, whole_same sense tags.good policy digest disks); printed = sym (append_none old) }
+  lacks_at_once old = record { texts = []; is = inl (refl, record { whole = whole_same sense tags.good policy digest disks; spare = refl }); printed = sym (append_none old) }
 
 -- the same policy and disks under other names
 pub same_run : {D : Type 0} (sense : Sense D) (tags : Tags) (p q : List PlacedItem) (digest : List ℕ) (ds es left : List D) (lines : List Line) (result : Result Ending Halt) (old new : Option (List ℕ)) → p ≡ q → ds ≡ es →

@@ -1,10 +1,10 @@
 -- Counts of faults that rose, along a run of several parts.
-use Rattle.std.proofs.Common.{◌≡◌, ◌⊎◌, ℕ, ◌≤◌, List, [], ◌∷◌, length, Result, refl, sym, subst, inl, inr, ⊎_elim, arith}
+use Rattle.std.proofs.Common.{◌≡◌, ◌⊎◌, ℕ, ◌≤◌, Bool, List, [], ◌∷◌, length, Result, refl, sym, subst, ◌∙◌, inl, inr, ⊎_elim, arith}
 use Rattle.outside.specs.Causes.{Rose}
-use Rattle.world.specs.Stops.{HasCause, NoneFell, SomeRose}
+use Rattle.world.specs.Stops.{AreAsHonest, HasCause, NoneFell, SomeRose}
 use Rattle.world.specs.declared.stop.RunStop.{RunStop}
 use Rattle.world.specs.declared.stop.RunStop.TheVariants as stop
-use Rattle.aranyad.specs.Ending.{LinesHalt}
+use Rattle.aranyad.specs.Ending.{AreLater, LinesHalt}
 use Rattle.aranyad.specs.working.Following.{StopHalts}
 use Rattle.aranyad.specs.declared.ending.Ending.{Ending}
 use Rattle.aranyad.specs.declared.ending.Halt.{Halt}
@@ -20,11 +20,11 @@ module _ {D : Type 0} (faults : D → ℕ) where
   some_rose_from (d ∷ ds) (m ∷ ms) [] fell rose = absurd rose
   some_rose_from (d ∷ ds) (m ∷ ms) (e ∷ es) fell rose = ⊎_elim (λ here. inl (rose_from (faults d) (faults m) (faults e) fell.0 here)) (λ there. inr (some_rose_from ds ms es fell.1 there)) rose
 
-  pub none_fell : (disks : List D) → NoneFell faults disks disks
+  none_fell : (disks : List D) → NoneFell faults disks disks
   none_fell [] = tt
   none_fell (d ∷ ds) = (omega arith, none_fell ds)
 
-  pub none_fell_from : (old mid new : List D) → NoneFell faults old mid → NoneFell faults mid new → NoneFell faults old new
+  none_fell_from : (old mid new : List D) → NoneFell faults old mid → NoneFell faults mid new → NoneFell faults old new
   none_fell_from [] [] new one two = two
   none_fell_from [] (m ∷ ms) new one two = absurd one
   none_fell_from (d ∷ ds) [] new one two = absurd one
@@ -36,6 +36,30 @@ module _ {D : Type 0} (faults : D → ℕ) where
   as_many [] (e ∷ es) fell = absurd fell
   as_many (d ∷ ds) [] fell = absurd fell
   as_many (d ∷ ds) (e ∷ es) fell = let more = as_many ds es fell.1 in omega (arith, more)
+
+-- ---- disks that were kept
+
+module _ {D : Type 0} (honest : D → Bool) where
+  as_honest : (disks : List D) → AreAsHonest honest disks disks
+  as_honest [] = tt
+  as_honest (d ∷ ds) = (refl, as_honest ds)
+
+  as_honest_from : (old mid new : List D) → AreAsHonest honest old mid → AreAsHonest honest mid new → AreAsHonest honest old new
+  as_honest_from [] [] new one two = two
+  as_honest_from [] (m ∷ ms) new one two = absurd one
+  as_honest_from (d ∷ ds) [] new one two = absurd one
+  as_honest_from (d ∷ ds) (m ∷ ms) [] one two = absurd two
+  as_honest_from (d ∷ ds) (m ∷ ms) (e ∷ es) one two = (two.0 ∙ one.0, as_honest_from ds ms es one.1 two.1)
+
+module _ {D : Type 0} (faults : D → ℕ) (honest : D → Bool) where
+  pub later_at_once : (disks : List D) → AreLater faults honest disks disks
+  later_at_once disks = (none_fell faults disks, as_honest honest disks)
+
+  pub later_from : (old mid new : List D) → AreLater faults honest old mid → AreLater faults honest mid new → AreLater faults honest old new
+  later_from old mid new one two = (none_fell_from faults old mid new one.0 two.0, as_honest_from honest old mid new one.1 two.1)
+
+  pub later_from_opening : (old mid new left : List D) → AreLater faults honest old mid → AreLater faults honest mid new → left ≡ new → AreLater faults honest old left
+  later_from_opening old mid new left one two same = subst (AreLater faults honest old) (sym same) (later_from old mid new one two)
 
 -- ---- a world that stopped
 
@@ -84,6 +108,3 @@ module _ {D : Type 0} (faults : D → ℕ) where
     seal = halts.seal;
     write = halts.write;
   }
-
-  pub fell_from : (old mid new left : List D) → NoneFell faults old mid → NoneFell faults mid new → left ≡ new → NoneFell faults old left
-  fell_from old mid new left one two same = subst (NoneFell faults old) (sym same) (none_fell_from faults old mid new one two)

@@ -1,6 +1,7 @@
 -- How a run ends, by its statuses; and which counts must have risen where it was halted.
-use Rattle.std.specs.Prelude.{◌≡◌, ◌≢◌, ◌⊎◌, ℕ, ◌≤◌, List, Option, Some, None, Result, Ok, Err}
+use Rattle.std.specs.Prelude.{◌≡◌, ◌≢◌, ◌⊎◌, ℕ, ◌≤◌, Bool, List, Option, Some, None, Result, Ok, Err}
 use Rattle.outside.specs.Causes.{Rose}
+use Rattle.world.specs.Stops.{AreAsHonest, NoneFell}
 use Rattle.aranyad.specs.declared.ending.Ending.{Ending}
 use Rattle.aranyad.specs.declared.ending.Ending.TheVariants as ending
 use Rattle.aranyad.specs.declared.ending.Halt.{Halt}
@@ -84,6 +85,10 @@ pub record LinesHalt (disks : Type 0) (seals_old seals_new writes_old writes_new
   pub disk : result ≡ Err halt.Disk → disks
   pub seal : result ≡ Err halt.Seal → Rose seals_old seals_new
   pub write : result ≡ Err halt.Write → Rose writes_old writes_new
+
+-- Of disks in their order no count fell, and each is as honest as it was.
+abbrev pub AreLater : {D : Type 0} → (D → ℕ) → (D → Bool) → List D → List D → Type 0
+AreLater faults honest old new = NoneFell faults old new × AreAsHonest honest old new
 
 -- The latest failed read is of a file that the words give.
 abbrev pub IsGiven : Option Mode → Option (List ℕ) → Type 0

@@ -1,5 +1,5 @@
 -- How the lines of a script are run in a world, one after another.
-use Rattle.std.specs.Prelude.{◌≡◌, ◌⊎◌, ℕ, List, [], ◌∷◌, ◌++◌, Some, None, Result, Ok, Err}
+use Rattle.std.specs.Prelude.{◌≡◌, ◌⊎◌, ℕ, List, [], ◌∷◌, ◌++◌, drop, length, Some, None, Result, Ok, Err}
 use Rattle.std.specs.List.{flat_map}
 use Rattle.journal.specs.declared.fault.OpenFault.{OpenFault}
 use Rattle.journal.specs.declared.fault.OpenFault.TheVariants as fault
@@ -81,12 +81,18 @@ module _ {D : Type 0} (sense : Sense D) (tags : Tags) where
     pub reads : (a : List ℕ) (kept : Kept D) → kept_of new.replicas a ≡ Some kept → kept.down ≡ None → OpensAs (criteria_of tags.good kept) (sense.content kept.disk).reads (Opens (front_of kept.held))
 
   module _ (policy : List PlacedItem) (digest : List ℕ) (disks : List D) where
+    -- No line was run. What a crash at any moment of the opening leaves is what it might have left before, or opens alike; and the disks after those of the
+    -- replicas that the lines declare are as they were.
+    pub record LeavesUnopened (lines : List Line) (left : List D) : Type 0 where
+      pub whole : OpenWhole sense tags.good policy digest disks left
+      pub spare : drop (length (names_of lines)) left ≡ drop (length (names_of lines)) disks
+
     -- A world isn't opened, for a failed disk or since memory ran out; or since a journal is refused, which is told; or it is opened on what the disks read, and
     -- the lines are run in it. What a crash at any moment of the opening leaves is what it might have left before, or opens alike.
     abbrev pub RunsOpened : List Line → Result Ending Halt → List (List ℕ) → List D → Type 0
     RunsOpened lines result texts left =
-        (HaltsAtOnce result texts × OpenWhole sense tags.good policy digest disks left)
+        (HaltsAtOnce result texts × LeavesUnopened lines left)
         ⊎ ((name : List ℕ) × (cause : OpenFault) × RefusesFirst sense tags.good policy digest (names_of lines) disks name cause × Says ending.JournalRefused (journal_text name cause) result texts
-        × OpenWhole sense tags.good policy digest disks left)
+        × LeavesUnopened lines left)
         ⊎ ((first : Site D) × (new : Site D) × IsOpenedOn sense tags.good policy digest (names_of lines) disks first × OpenWhole sense tags.good policy digest disks (disks_of first)
         × AreSafe sense tags.good first.replicas × RunsLines tags first lines result texts new × LeavesDisks first lines new left)

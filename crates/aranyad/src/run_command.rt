@@ -2,7 +2,7 @@ ghost use Rattle.std.specs.Prelude.{◌≡◌, None, Some, Ok, Err, IfSome, IsTr
 ghost use Rattle.std.specs.List.{AllByRecursion};
 ghost use Rattle.script_texts.specs.Modes as modes;
 ghost use Rattle.world.specs.Stops.{SomeRose};
-ghost use Rattle.aranyad.specs.Ending.{HasCause, HaltsWithCause, IsGiven, RunsScripts, counts, status_of};
+ghost use Rattle.aranyad.specs.Ending.{AreLater, HasCause, HaltsWithCause, IsGiven, RunsScripts, counts, status_of};
 ghost use Rattle.aranyad.specs.Modes.{mode_of};
 ghost use Rattle.aranyad.specs.Printing.{Goes, Says};
 ghost use Rattle.aranyad.specs.Runs.{IsRun, RunsMode, SaysUsage};
@@ -22,6 +22,7 @@ use script_texts::usage_text;
 use std::alloc::Global;
 
 /// Runs a mode.
+#[tactic(auto, using(crate::proofs::Rises::later_at_once))]
 fn run_mode<F: Files, D: Disk, E: Envelope, K: Sink>(
     alloc: Global,
     mode: Mode,
@@ -34,6 +35,7 @@ fn run_mode<F: Files, D: Disk, E: Envelope, K: Sink>(
     ensures goes { IsTrue D.tells → AllByRecursion (λ d. IsTrue (D.honest d)) disks.old.items
         → IfSome (F.holds files.old) (λ at. Goes (RunsMode (record { tells = D.tells; content = D.content; honest = D.honest }) (record { good = E.good; told = E.tag_of }) disks.old.items disks.new.items at (Some mode)) result (K.written out.old) (K.written out.new)) }
     ensures disks { length disks.new.items ≡ 8 }
+    ensures later { AreLater D.faults D.honest disks.old.items disks.new.items }
     ensures unused { (RunsScripts (Some mode) → ⊥) → disks.new.items ≡ disks.old.items }
     ensures cause { HaltsWithCause (SomeRose D.faults disks.old.items disks.new.items) (counts (F.faults files.old) (E.faults env.old) (K.faults out.old)) (counts (F.faults files.new) (E.faults env.new) (K.faults out.new)) result }
     ensures given { result ≡ Err halt.Read → IsGiven (Some mode) (F.last files.new) }
@@ -50,6 +52,7 @@ fn run_mode<F: Files, D: Disk, E: Envelope, K: Sink>(
 }
 
 /// Does what the words ask for.
+#[tactic(auto, using(crate::proofs::Rises::later_at_once))]
 fn run_words<F: Files, D: Disk, E: Envelope, K: Sink>(
     alloc: Global,
     words: &[Text],
@@ -62,6 +65,7 @@ fn run_words<F: Files, D: Disk, E: Envelope, K: Sink>(
     ensures goes { IsTrue D.tells → AllByRecursion (λ d. IsTrue (D.honest d)) disks.old.items
         → IfSome (F.holds files.old) (λ at. Goes (RunsMode (record { tells = D.tells; content = D.content; honest = D.honest }) (record { good = E.good; told = E.tag_of }) disks.old.items disks.new.items at (mode_of words.now)) result (K.written out.old) (K.written out.new)) }
     ensures disks { length disks.new.items ≡ 8 }
+    ensures later { AreLater D.faults D.honest disks.old.items disks.new.items }
     ensures unused { (RunsScripts (mode_of words.now) → ⊥) → disks.new.items ≡ disks.old.items }
     ensures cause { HasCause (mode_of words.now) (counts (F.faults files.old) (E.faults env.old) (K.faults out.old)) (counts (F.faults files.new) (E.faults env.new) (K.faults out.new))
         (SomeRose D.faults disks.old.items disks.new.items) (F.last files.new) (status_of result) }
@@ -95,6 +99,8 @@ pub fn run_command<F: Files, D: Disk, E: Envelope, K: Sink>(
     // Words of no mode print the usage line, whatever the files hold.
     ensures usage { mode_of words.now ≡ None → SaysUsage result (K.written out.old) (K.written out.new) }
     ensures disks { length disks.new.items ≡ 8 }
+    // No count of faults falls, and each disk is as honest as it was.
+    ensures later { AreLater D.faults D.honest disks.old.items disks.new.items }
     // Only a run of scripts uses disks.
     ensures unused { (RunsScripts (mode_of words.now) → ⊥) → disks.new.items ≡ disks.old.items }
 {

@@ -4,9 +4,9 @@ ghost use Rattle.std.specs.Prelude.{◌≡◌, ◌<◌, ℕ, All, List, Ok, Err,
 ghost use Rattle.std.specs.List.{AllByRecursion};
 ghost use Rattle.policy_ast.specs.declared.policy.PlacedItem.{PlacedItem};
 ghost use Rattle.world.specs.Crashes.{AreSafe};
-ghost use Rattle.world.specs.Stops.{NoneFell, SomeRose};
+ghost use Rattle.world.specs.Stops.{SomeRose};
 ghost use Rattle.world.specs.Worlds.{AreUp, disks_of};
-ghost use Rattle.aranyad.specs.Ending.{LinesHalt};
+ghost use Rattle.aranyad.specs.Ending.{AreLater, LinesHalt};
 ghost use Rattle.aranyad.specs.Printing.{Goes};
 ghost use Rattle.aranyad.specs.Scripts.{RunsOpened, names_of};
 ghost use Rattle.aranyad.specs.working.Following.{EndsBy, FollowIn, IsPlainStop, RunsIn, StopHalts};
@@ -59,7 +59,7 @@ fn run_lines<R: Runner, G: Graph, F: FactBase, D: Disk, E: Envelope, K: Sink, L:
     requires up { AreUp world.old.replicas }
     ensures goes { AreSafe (record { tells = D.tells; content = D.content; honest = D.honest }) E.good world.old.replicas
         → Goes (RunsIn (record { tells = D.tells; content = D.content; honest = D.honest }) (record { good = E.good; told = E.tag_of }) world.old lines.now world.new) result (K.written out.old) (K.written out.new) }
-    ensures disks { NoneFell D.faults (disks_of world.old) (disks_of world.new) }
+    ensures disks { AreLater D.faults D.honest (disks_of world.old) (disks_of world.new) }
     ensures cause { LinesHalt (SomeRose D.faults (disks_of world.old) (disks_of world.new)) (E.faults env.old) (E.faults env.new) (K.faults out.old) (K.faults out.new) result }
 {
     for line in lines {
@@ -98,7 +98,7 @@ fn run_opened<R: Runner, G: Graph, F: FactBase, D: Disk, E: Envelope, K: Sink, L
     requires script { (bytes : List ℕ) × IsScript bytes lines.now }
     ensures goes { (policy : List PlacedItem) → All (λ r. R.rules r ≡ policy) runners.items → IsTrue D.tells → AllByRecursion (λ d. IsTrue (D.honest d)) disks.items
         → Goes (λ r ts. RunsOpened (record { tells = D.tells; content = D.content; honest = D.honest }) (record { good = E.good; told = E.tag_of }) policy digest.now disks.items lines.now r ts result.1.items) result.0 (K.written out.old) (K.written out.new) }
-    ensures disks { NoneFell D.faults disks.items result.1.items }
+    ensures disks { AreLater D.faults D.honest disks.items result.1.items }
     ensures cause { LinesHalt (SomeRose D.faults disks.items result.1.items) (E.faults env.old) (E.faults env.new) (K.faults out.old) (K.faults out.new) result.0 }
 {
     let mut world = match World::<R, G, F, D>::open_world(
@@ -113,6 +113,7 @@ fn run_opened<R: Runner, G: Graph, F: FactBase, D: Disk, E: Envelope, K: Sink, L
 }
 
 /// Runs a script's lines in the world of the replicas that they declare, each opened on the disk at its place. The disks are handed back.
+#[tactic(auto, using(crate::proofs::Rises::later_at_once))]
 pub fn run_world<D: Disk, E: Envelope, K: Sink, L: Ledger>(
     alloc: Global,
     digest: &Id,
@@ -131,6 +132,7 @@ pub fn run_world<D: Disk, E: Envelope, K: Sink, L: Ledger>(
     ensures goes { IsTrue D.tells → AllByRecursion (λ d. IsTrue (D.honest d)) disks.old.items
         → Goes (λ r ts. RunsOpened (record { tells = D.tells; content = D.content; honest = D.honest }) (record { good = E.good; told = E.tag_of }) policy digest.now disks.old.items lines.now r ts disks.new.items) result (K.written out.old) (K.written out.new) }
     ensures disks { length disks.new.items ≡ 8 }
+    ensures later { AreLater D.faults D.honest disks.old.items disks.new.items }
     ensures cause { LinesHalt (SomeRose D.faults disks.old.items disks.new.items) (E.faults env.old) (E.faults env.new) (K.faults out.old) (K.faults out.new) result }
 {
     let names = match names_of(alloc, lines) {

@@ -3,7 +3,7 @@
 ghost use Rattle.std.specs.Prelude.{◌≡◌, ◌⊎◌, Some, Err, IfSome, IsTrue, length};
 ghost use Rattle.std.specs.List.{AllByRecursion};
 ghost use Rattle.world.specs.Stops.{SomeRose};
-ghost use Rattle.aranyad.specs.Ending.{HaltsWithCause, LinesHalt, counts};
+ghost use Rattle.aranyad.specs.Ending.{AreLater, HaltsWithCause, LinesHalt, counts};
 ghost use Rattle.aranyad.specs.Loading.{ArePlaced, limited, policy_limit, script_limit};
 ghost use Rattle.aranyad.specs.Printing.{Goes};
 ghost use Rattle.aranyad.specs.Runs.{RunsFiles, RunsPolicy, RunsScriptFile, RunsWorld};
@@ -23,6 +23,7 @@ use std::marker::Brand;
 use std::sync::ledger::Blank;
 
 /// Runs what the script's file was taken for, under a policy whose document has this digest.
+#[tactic(auto, using(crate::proofs::Rises::later_at_once))]
 fn run_script<D: Disk, E: Envelope, K: Sink>(
     alloc: Global,
     digest: &Id,
@@ -37,6 +38,7 @@ fn run_script<D: Disk, E: Envelope, K: Sink>(
     ensures goes { IsTrue D.tells → AllByRecursion (λ d. IsTrue (D.honest d)) disks.old.items
         → Goes (RunsWorld (record { tells = D.tells; content = D.content; honest = D.honest }) (record { good = E.good; told = E.tag_of }) disks.old.items disks.new.items digest.now policy script.now) result (K.written out.old) (K.written out.new) }
     ensures disks { length disks.new.items ≡ 8 }
+    ensures later { AreLater D.faults D.honest disks.old.items disks.new.items }
     ensures cause { LinesHalt (SomeRose D.faults disks.old.items disks.new.items) (E.faults env.old) (E.faults env.new) (K.faults out.old) (K.faults out.new) result }
 {
     match script {
@@ -56,6 +58,7 @@ fn run_script<D: Disk, E: Envelope, K: Sink>(
 }
 
 /// Reads the script's file and runs it, under a policy whose document has this digest.
+#[tactic(auto, using(crate::proofs::Rises::later_at_once))]
 fn run_whole<F: Files, D: Disk, E: Envelope, K: Sink>(
     alloc: Global,
     digest: &Id,
@@ -71,6 +74,7 @@ fn run_whole<F: Files, D: Disk, E: Envelope, K: Sink>(
         → IfSome (F.holds files.old) (λ at. Goes (RunsScriptFile (record { tells = D.tells; content = D.content; honest = D.honest }) (record { good = E.good; told = E.tag_of }) disks.old.items disks.new.items (limited script_limit (at script)) digest.now policy)
         result (K.written out.old) (K.written out.new)) }
     ensures disks { length disks.new.items ≡ 8 }
+    ensures later { AreLater D.faults D.honest disks.old.items disks.new.items }
     ensures cause { HaltsWithCause (SomeRose D.faults disks.old.items disks.new.items) (counts (F.faults files.old) (E.faults env.old) (K.faults out.old)) (counts (F.faults files.new) (E.faults env.new) (K.faults out.new)) result }
     ensures last { result ≡ Err halt.Read → F.last files.new ≡ Some script }
 {
@@ -81,6 +85,7 @@ fn run_whole<F: Files, D: Disk, E: Envelope, K: Sink>(
 }
 
 /// Runs what the policy's file was taken for, and then the script's file.
+#[tactic(auto, using(crate::proofs::Rises::later_at_once))]
 fn run_loaded<F: Files, D: Disk, E: Envelope, K: Sink>(
     alloc: Global,
     policy: Loaded,
@@ -95,6 +100,7 @@ fn run_loaded<F: Files, D: Disk, E: Envelope, K: Sink>(
         → IfSome (F.holds files.old) (λ at. Goes (RunsPolicy (record { tells = D.tells; content = D.content; honest = D.honest }) (record { good = E.good; told = E.tag_of }) disks.old.items disks.new.items (limited script_limit (at script)) policy)
         result (K.written out.old) (K.written out.new)) }
     ensures disks { length disks.new.items ≡ 8 }
+    ensures later { AreLater D.faults D.honest disks.old.items disks.new.items }
     ensures cause { HaltsWithCause (SomeRose D.faults disks.old.items disks.new.items) (counts (F.faults files.old) (E.faults env.old) (K.faults out.old)) (counts (F.faults files.new) (E.faults env.new) (K.faults out.new)) result }
     ensures last { result ≡ Err halt.Read → F.last files.new ≡ Some script }
 {
@@ -108,6 +114,7 @@ fn run_loaded<F: Files, D: Disk, E: Envelope, K: Sink>(
 }
 
 /// Runs the policy's file, and then the script's.
+#[tactic(auto, using(crate::proofs::Rises::later_at_once))]
 pub fn run_files<F: Files, D: Disk, E: Envelope, K: Sink>(
     alloc: Global,
     policy: Text,
@@ -122,6 +129,7 @@ pub fn run_files<F: Files, D: Disk, E: Envelope, K: Sink>(
         → IfSome (F.holds files.old) (λ at. Goes (RunsFiles (record { tells = D.tells; content = D.content; honest = D.honest }) (record { good = E.good; told = E.tag_of }) disks.old.items disks.new.items (limited policy_limit (at policy)) (limited script_limit (at script)))
         result (K.written out.old) (K.written out.new)) }
     ensures disks { length disks.new.items ≡ 8 }
+    ensures later { AreLater D.faults D.honest disks.old.items disks.new.items }
     ensures cause { HaltsWithCause (SomeRose D.faults disks.old.items disks.new.items) (counts (F.faults files.old) (E.faults env.old) (K.faults out.old)) (counts (F.faults files.new) (E.faults env.new) (K.faults out.new)) result }
     ensures last { result ≡ Err halt.Read → (F.last files.new ≡ Some policy) ⊎ (F.last files.new ≡ Some script) }
 {

@@ -7,7 +7,7 @@ use Rattle.aranyad.specs.working.Following.{FollowIn}
 use Rattle.aranyad.proofs.Followings.{follow_on, may_be_run}
 use Rattle.aranyad.proofs.Goings.{SoFar, at_hand, front_as, line_broken, line_printed, line_stopped, lines_begin, lines_done, printed_as}
 use Rattle.aranyad.proofs.Moments.{leaves, not_refused, plain_step, stands_first, stands_on, steady}
-use Rattle.aranyad.proofs.Rises.{none_fell, none_fell_from, stop_halts}
+use Rattle.aranyad.proofs.Rises.{later_at_once, later_from, stop_halts}
 use Rattle.aranyad.proofs.running.run_lines.Goals as goal
 
 pub loop-line-init : goal.loop-line-init
@@ -18,7 +18,7 @@ loop-line-init g c =
       follow = c.requires.placed;
       up = c.requires.up;
       so_far = λ safe. (lines_begin tags c.args.world.now c.args.lines.now (g.K.Sink.written c.args.out.now), stands_first sense tags c.args.world.now c.args.lines.now safe c.requires.up);
-      disks = none_fell g.D.Disk.faults (disks_of c.args.world.now);
+      disks = later_at_once g.D.Disk.faults g.D.Disk.honest (disks_of c.args.world.now);
       later_seals = omega (arith);
       later_writes = omega (arith);
     }
@@ -51,11 +51,11 @@ returns-in-Err-clause-goes g c = λ safe.
     c.end_stopped.ensures.goes
 
 pub returns-in-Err-clause-disks : goal.returns-in-Err-clause-disks
-returns-in-Err-clause-disks g c = none_fell_from g.D.Disk.faults (disks_of c.args.world.now) (disks_of c.loop-line.world) (disks_of c.step.new.self) c.loop-line.invariant.disks c.in-Err.ensures.disks
+returns-in-Err-clause-disks g c = later_from g.D.Disk.faults g.D.Disk.honest (disks_of c.args.world.now) (disks_of c.loop-line.world) (disks_of c.step.new.self) c.loop-line.invariant.disks (c.in-Err.ensures.disks, c.in-Err.ensures.honest)
 
 pub returns-in-Err-clause-cause : goal.returns-in-Err-clause-cause
 returns-in-Err-clause-cause g c =
-    stop_halts g.D.Disk.faults (disks_of c.args.world.now) (disks_of c.loop-line.world) (disks_of c.step.new.self) _ _ _ _ _ _ c.in-Err.stop c.end_stopped.result c.loop-line.invariant.disks
+    stop_halts g.D.Disk.faults (disks_of c.args.world.now) (disks_of c.loop-line.world) (disks_of c.step.new.self) _ _ _ _ _ _ c.in-Err.stop c.end_stopped.result c.loop-line.invariant.disks.0
     c.loop-line.invariant.later_seals c.in-Err.ensures.later c.loop-line.invariant.later_writes c.in-Err.ensures.cause c.end_stopped.ensures.cause
 
 pub returns-in-Err-write_all-clause-goes : goal.returns-in-Err-write_all-clause-goes
@@ -73,7 +73,7 @@ returns-in-Err-write_all-clause-goes g c = λ safe.
     (front_as _ line.0 _ _ (c.as_slice.ensures ∙ line.2 ∙ ap (λ l. l ++ line.0) c.new-text.ensures) c.in-Err-write_all.ensures.written)
 
 pub returns-in-Err-write_all-clause-disks : goal.returns-in-Err-write_all-clause-disks
-returns-in-Err-write_all-clause-disks g c = none_fell_from g.D.Disk.faults (disks_of c.args.world.now) (disks_of c.loop-line.world) (disks_of c.step.new.self) c.loop-line.invariant.disks c.in-Ok.ensures.disks
+returns-in-Err-write_all-clause-disks g c = later_from g.D.Disk.faults g.D.Disk.honest (disks_of c.args.world.now) (disks_of c.loop-line.world) (disks_of c.step.new.self) c.loop-line.invariant.disks (c.in-Ok.ensures.disks, c.in-Ok.ensures.honest)
 
 pub returns-clause-goes : goal.returns-clause-goes
 returns-clause-goes g c = λ safe.
@@ -103,7 +103,7 @@ loop-line-preserved g c =
                 (printed_as _ line.0 _ _ (c.as_slice.ensures ∙ line.2 ∙ ap (λ l. l ++ line.0) c.new-text.ensures) c.in-Ok-write_all.ensures.written),
             stands,
           );
-      disks = none_fell_from g.D.Disk.faults (disks_of c.args.world.now) (disks_of c.loop-line.world) (disks_of c.step.new.self) c.loop-line.invariant.disks c.in-Ok.ensures.disks;
+      disks = later_from g.D.Disk.faults g.D.Disk.honest (disks_of c.args.world.now) (disks_of c.loop-line.world) (disks_of c.step.new.self) c.loop-line.invariant.disks (c.in-Ok.ensures.disks, c.in-Ok.ensures.honest);
       later_seals = omega (arith, c.loop-line.invariant.later_seals, c.in-Ok.ensures.later);
       later_writes = omega (arith, c.loop-line.invariant.later_writes, c.in-Ok-write_all.ensures.cause.later);
     }

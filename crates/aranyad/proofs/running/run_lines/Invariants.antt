@@ -1,7 +1,7 @@
 use Rattle.std.proofs.Common.{◌≤◌, drop}
 use Rattle.world.specs.Crashes.{AreSafe}
-use Rattle.world.specs.Stops.{NoneFell}
 use Rattle.world.specs.Worlds.{AreUp, disks_of}
+use Rattle.aranyad.specs.Ending.{AreLater}
 use Rattle.aranyad.specs.working.Following.{FollowIn}
 use Rattle.aranyad.proofs.Goings.{SoFar}
 use Rattle.aranyad.proofs.Moments.{StandsAt}
@@ -14,7 +14,7 @@ invariant-loop-line g l =
       up : AreUp l.world.replicas;
       so_far : AreSafe (record { tells = g.D.Disk.tells; content = g.D.Disk.content; honest = g.D.Disk.honest }) g.E.Envelope.good l.fn.world.replicas
           → SoFar (record { good = g.E.Envelope.good; told = g.E.Envelope.tag_of }) l.fn.world l.lines (g.K.Sink.written l.fn.out) (drop l.line-index l.lines) l.world (g.K.Sink.written l.out) × StandsAt (record { tells = g.D.Disk.tells; content = g.D.Disk.content; honest = g.D.Disk.honest }) (record { good = g.E.Envelope.good; told = g.E.Envelope.tag_of }) l.fn.world l.lines l.world;
-      disks : NoneFell g.D.Disk.faults (disks_of l.fn.world) (disks_of l.world);
+      disks : AreLater g.D.Disk.faults g.D.Disk.honest (disks_of l.fn.world) (disks_of l.world);
       later_seals : g.E.Envelope.faults l.fn.env ≤ g.E.Envelope.faults l.env;
       later_writes : g.K.Sink.faults l.fn.out ≤ g.K.Sink.faults l.out;
     }

@@ -1,4 +1,4 @@
-use Rattle.std.proofs.Common.{subst}
+use Rattle.std.proofs.Common.{◌≡◌, drop, length, subst}
 use Rattle.replica.specs.Disks.{Sense}
 use Rattle.world.specs.Crashes.{IsOpenedOn, IsWhyNot}
 use Rattle.world.specs.Lines.{Tags}
@@ -6,7 +6,7 @@ use Rattle.world.specs.Worlds.{disks_of}
 use Rattle.aranyad.proofs.Followings.{names_fit}
 use Rattle.aranyad.proofs.Goings.{opened_goes, unopened_goes}
 use Rattle.aranyad.proofs.Moments.{plain_opening, world_follows}
-use Rattle.aranyad.proofs.Rises.{fell_from, halts_from, unopened_halts}
+use Rattle.aranyad.proofs.Rises.{halts_from, later_from_opening, unopened_halts}
 use Rattle.aranyad.proofs.running.run_opened.Goals as goal
 
 pub open_world-requires-clause-disks : goal.open_world-requires-clause-disks
@@ -25,7 +25,7 @@ returns-in-Err-clause-goes g c = λ policy rules told honest.
     let tags : Tags = record { good = g.E.Envelope.good; told = g.E.Envelope.tag_of } in
     unopened_goes sense tags policy c.args.digest.now c.args.disks.items c.args.lines.now c.in-Err.stop c.in-Err.disks.items c.end_stopped.result _ _
     (subst (λ ns. IsWhyNot sense g.E.Envelope.good policy c.args.digest.now ns c.args.disks.items c.in-Err.stop) c.requires.names (c.in-Err.ensures.opens policy rules))
-    (c.in-Err.ensures.crash policy rules told honest).0 c.end_stopped.ensures.goes
+    (record { whole = (c.in-Err.ensures.crash policy rules told honest).0; spare = subst (λ ns. drop (length ns) c.in-Err.disks.items ≡ drop (length ns) c.args.disks.items) c.requires.names c.in-Err.ensures.spare }) c.end_stopped.ensures.goes
 
 pub returns-in-Err-clause-cause : goal.returns-in-Err-clause-cause
 returns-in-Err-clause-cause g c = unopened_halts g.D.Disk.faults c.args.disks.items c.in-Err.disks.items _ _ _ c.in-Err.stop c.end_stopped.result c.in-Err.ensures.cause c.end_stopped.ensures.cause
@@ -50,7 +50,7 @@ returns-clause-goes g c = λ policy rules told honest.
 
 pub returns-clause-disks : goal.returns-clause-disks
 returns-clause-disks g c =
-    fell_from g.D.Disk.faults c.args.disks.items (disks_of c.in-Ok.world) (disks_of c.run_lines-result.new.world) c.into_disks.result.items c.in-Ok.ensures.disks c.run_lines-result.ensures.disks c.into_disks.ensures
+    later_from_opening g.D.Disk.faults g.D.Disk.honest c.args.disks.items (disks_of c.in-Ok.world) (disks_of c.run_lines-result.new.world) c.into_disks.result.items (c.in-Ok.ensures.disks, c.in-Ok.ensures.honest) c.run_lines-result.ensures.disks c.into_disks.ensures
 
 pub returns-clause-cause : goal.returns-clause-cause
 returns-clause-cause g c =

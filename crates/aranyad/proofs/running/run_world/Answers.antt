@@ -1,6 +1,7 @@
-use Rattle.std.proofs.Common.{◌≡◌, ap, length, refl, ◌∙◌}
+use Rattle.std.proofs.Common.{◌≡◌, ap, length, refl, subst, ◌∙◌}
 use Rattle.replica.specs.Disks.{Sense}
 use Rattle.world.specs.Lines.{Tags}
+use Rattle.aranyad.specs.Ending.{AreLater}
 use Rattle.aranyad.proofs.Goings.{lacks_at_once, same_run}
 use Rattle.aranyad.proofs.Rises.{as_many}
 use Rattle.aranyad.proofs.running.run_world.Goals as goal
@@ -28,4 +29,9 @@ returns-clause-goes g c = λ told honest.
 pub returns-clause-disks : goal.returns-clause-disks
 returns-clause-disks g c =
     let same : c.replace-own.result.items ≡ c.args.disks.now.items = rw c.replace-own.ensures.value refl in
-    as_many g.D.Disk.faults c.replace-own.result.items _ c.run_opened-result.ensures.disks ∙ ap length same ∙ c.requires.enough
+    as_many g.D.Disk.faults c.replace-own.result.items _ c.run_opened-result.ensures.disks.0 ∙ ap length same ∙ c.requires.enough
+
+pub returns-clause-later : goal.returns-clause-later
+returns-clause-later g c =
+    let same : c.replace-own.result.items ≡ c.args.disks.now.items = rw c.replace-own.ensures.value refl in
+    subst (λ ds. AreLater g.D.Disk.faults g.D.Disk.honest ds _) same c.run_opened-result.ensures.disks
