@@ -20,7 +20,7 @@ mod value_rows;
 mod words;
 
 use crate::run_command::run_command;
-use crate::tests::journal_rows::Opened;
+use crate::tests::journal_rows::{Failed, Opened};
 use crate::tests::narrow_sink::NarrowSink;
 use crate::tests::numbering_envelope::NumberingEnvelope;
 use crate::tests::rows::{FIRST, Row};
@@ -214,6 +214,40 @@ fn journals_are_kept_and_opened_again(rt: HostRuntime) -> Result<(), Fail> {
     let journal = assert_row_on(&rt, alloc, &FIRST, Bytes::new(alloc), 0)?;
     assert!(rt; is_first_journal(journal.as_slice()));
     assert_all_opened(&rt, alloc, journal.as_slice(), &journal_rows::ROWS)?;
+    Ok(())
+}
+
+// Makes the first example's run on an empty disk whose call of this number fails, and then a run that opens what the disk has.
+fn assert_failed<R: Abort>(
+    rt: &R,
+    alloc: Global,
+    failing_call: u64,
+    failed: &Failed,
+) -> Result<(), NoMemory> {
+    let row = Row {
+        name: "a disk that fails",
+        status: 6,
+        text: failed.text,
+        ..FIRST
+    };
+    let left = assert_row_on(rt, alloc, &row, Bytes::new(alloc), failing_call)?;
+    let again = Row {
+        name: "a disk that failed",
+        script: journal_rows::ONE_LINE,
+        text: failed.held,
+        ..FIRST
+    };
+    assert_row_on(rt, alloc, &again, left, 0)?;
+    Ok(())
+}
+
+#[test]
+fn a_disk_that_failed_holds_whole_commits(rt: HostRuntime) -> Result<(), Fail> {
+    for failed in &journal_rows::FAILED {
+        for failing_call in failed.from..failed.to {
+            assert_failed(&rt, rt.alloc(), failing_call, failed)?;
+        }
+    }
     Ok(())
 }
 

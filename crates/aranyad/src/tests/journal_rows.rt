@@ -22,7 +22,8 @@ pub const WHOLE: usize = 297;
 /// The place of each gate, and what stands there.
 pub const GATES: [(usize, u8); 4] = [(0, 1), (38, 1), (162, 1), (296, 0)];
 
-const ONE_LINE: &str = "replica a\n";
+/// A script that opens the journal, and does nothing else.
+pub const ONE_LINE: &str = "replica a\n";
 
 pub const ROWS: [Opened; 11] = [
     Opened {
@@ -147,5 +148,50 @@ pub const ROWS: [Opened; 11] = [
         script: ONE_LINE,
         status: 6,
         text: &[],
+    },
+];
+
+/// Runs of the first example on an empty disk of which one call fails: the one of this number, once for each from the first one up to the last, which is left
+/// out. What such a run prints, and what a second run on the disk then prints of the replica.
+#[derive(Clone, Copy)]
+pub struct Failed {
+    pub from: u64,
+    pub to: u64,
+    pub text: &'static [&'static str],
+    pub held: &'static [&'static str],
+}
+
+/// The opening takes eight calls, and each commit a write and a sync of its record, and a write and a sync of its gate. Where the last sync of a commit fails,
+/// the disk has it.
+pub const FAILED: [Failed; 5] = [
+    Failed {
+        from: 1,
+        to: 9,
+        text: &[],
+        held: &[REPLICA],
+    },
+    Failed {
+        from: 9,
+        to: 12,
+        text: &[REPLICA],
+        held: &[REPLICA],
+    },
+    Failed {
+        from: 12,
+        to: 13,
+        text: &[REPLICA],
+        held: &["replica a holds 1\n"],
+    },
+    Failed {
+        from: 13,
+        to: 16,
+        text: &[REPLICA, INIT],
+        held: &["replica a holds 1\n"],
+    },
+    Failed {
+        from: 16,
+        to: 17,
+        text: &[REPLICA, INIT],
+        held: &["replica a holds 2\n"],
     },
 ];
