@@ -1,5 +1,5 @@
 -- A call changes a replica as its line says, or not at all.
-use Rattle.std.proofs.Common.{◌≡◌, ◌⊎◌, inl, inr, ℕ, Bool, List, [], ◌∷◌, codes, length, Option, None, Some, IsSome, Result, Ok, Err, IfErr, IfOk, refl, sym, ap, subst, ◌∙◌}
+use Rattle.std.proofs.Common.{◌≡◌, ◌⊎◌, inl, inr, ℕ, Bool, List, [], ◌∷◌, codes, Option, None, Some, IsSome, Result, Ok, Err, IfErr, IfOk, refl, sym, ap, subst, ◌∙◌}
 use Rattle.braid_run.specs.States.{Held}
 use Rattle.replica.specs.Actions.{IsFault}
 use Rattle.replica.specs.Calls.{Answers, Asks, AsksNext, ActsIn, Begins, IsActionOf, IsTakeOf, Joins, TakesIn, basis_of}
@@ -19,15 +19,15 @@ use Rattle.transaction.specs.Acting.{Request as Action}
 use Rattle.transaction.specs.declared.fault.ActFault.TheVariants as fault
 use Rattle.world.specs.Lines.{JoinsGraph, RunsAction, RunsJoin, RunsTake, SaysAnswer, SaysAsk, SaysNext, Tags, graph_to_join}
 use Rattle.world.specs.Replies.{asked_line, joined_line, message_of, next_line, next_message_of, published_line, refused_line, taken_line}
-use Rattle.world.specs.Worlds.{AreAlike, AreUp, Changes, Named, Of, kept_of, with_kept}
+use Rattle.world.specs.Worlds.{AreAlike, AreUp, Changes, Named, Of}
 use Rattle.world.specs.declared.said.Said.{Said}
 use Rattle.world.specs.declared.stop.RunStop.{RunStop}
 use Rattle.world.specs.declared.stop.RunStop.TheVariants as stop
-use Rattle.world.specs.working.Handling.{Handles, IsDiskFault, Treats}
-use Rattle.world.specs.working.Running.{Changing, FrontOf, LeavesAlike, Making, NoneOf, Showing}
+use Rattle.world.specs.working.Handling.{Handles, Treats}
+use Rattle.world.specs.working.Running.{Changing, FrontOf, Making, NoneOf, Showing}
 use Rattle.world.specs.working.Stopping.{IsCausedBy, NoJournal}
 use Rattle.world.specs.working.Words.{AnswerWords, Words, WordsAndMessage, WordsBy, refusal_of}
-use Rattle.world.proofs.CauseFacts.{answers_mild, asks_mild, fault_caused, is_mild, mild_caused, mild_memory, next_mild, read_mild, refused_join_alone}
+use Rattle.world.proofs.CauseFacts.{answers_mild, asks_mild, fault_caused, mild_caused, mild_memory, next_mild, read_mild, refused_join_alone}
 use Rattle.world.proofs.HandleFacts.{handles, handles_more, handles_still, step_alike, weathers_step}
 use Rattle.world.proofs.PlaceFacts.{alike_at, alike_same, up_of}
 
@@ -72,7 +72,7 @@ module _ {D : Type 0} (sense : Sense D) (good : List ℕ → List ℕ → List �
 
     pub init_handles : (sealed : Type 0) → AreUp old → (IfErr reply (λ why. why ≡ refusal.Act fault.SealFault → sealed))
         → Changes old name (λ before after. Begins before good told action t u reply after × Treats sense good faults before after reply) new → Words reply (published_line verb name reply) result
-        → Handles sense good faults sealed NoJournal (FrontOf (RunsAction verb name (λ kept. Begins kept good told action)) NoneOf old) old result new
+        → Handles sense good faults sealed (Some name) NoJournal (FrontOf (RunsAction verb name (λ kept. Begins kept good told action)) NoneOf old) old result new
     unfolding begin_gives begin_refuses
     init_handles sealed up rose changes words =
         let reached : List (Named D) → Type 0 = FrontOf (RunsAction verb name (λ kept. Begins kept good told action)) NoneOf old in
@@ -94,7 +94,7 @@ module _ {D : Type 0} (sense : Sense D) (good : List ℕ → List ℕ → List �
 
     pub act_handles : (sealed : Type 0) → AreUp old → (IfErr reply (λ why. why ≡ refusal.Act fault.SealFault → sealed))
         → Changes old name (λ before after. ActsIn before good told action t u reply after × Treats sense good faults before after reply) new → Words reply (published_line verb name reply) result
-        → Handles sense good faults sealed NoJournal (FrontOf (RunsAction verb name (λ kept. ActsIn kept good told action)) NoneOf old) old result new
+        → Handles sense good faults sealed (Some name) NoJournal (FrontOf (RunsAction verb name (λ kept. ActsIn kept good told action)) NoneOf old) old result new
     act_handles sealed up rose changes words =
         let reached : List (Named D) → Type 0 = FrontOf (RunsAction verb name (λ kept. ActsIn kept good told action)) NoneOf old in
         handles sense good reached faults sealed old name reply new up (inl refl)
@@ -114,7 +114,7 @@ module _ {D : Type 0} (sense : Sense D) (good : List ℕ → List ℕ → List �
         (λ r. (_, refl)) words (λ text is. (reply, call_of (λ before after. TakesIn before good bytes reply after) reply old name new changes, is))
 
     pub take_handles : (sealed : Type 0) → AreUp old → Changes old name (λ before after. TakesIn before good bytes reply after × Treats sense good faults before after reply) new → Words reply (taken_line name reply) result
-        → Handles sense good faults sealed NoJournal (FrontOf (RunsTake (record { good = good; told = told }) name (Some bytes)) NoneOf old) old result new
+        → Handles sense good faults sealed (Some name) NoJournal (FrontOf (RunsTake (record { good = good; told = told }) name (Some bytes)) NoneOf old) old result new
     take_handles sealed up changes words =
         let reached : List (Named D) → Type 0 = FrontOf (RunsTake (record { good = good; told = told }) name (Some bytes)) NoneOf old in
         handles sense good reached faults sealed old name reply new up (inl refl)
@@ -137,8 +137,8 @@ module _ {D : Type 0} (sense : Sense D) (good : List ℕ → List ℕ → List �
     untaken_changes message none is = subst (λ m. Changing (RunsTake tags name m) NoneOf old result old) (sym none) (untaken_by result is)
 
     pub untaken_handles : (message : Option Bytes) (sealed : Type 0) → AreUp old → Showing (λ text. text ≡ no_message_text (codes "take") (name ∷ [])) result
-        → Handles sense good faults sealed NoJournal (FrontOf (RunsTake tags name message) NoneOf old) old result old
-    untaken_handles message sealed up is = handles_still sense good (FrontOf (RunsTake tags name message) NoneOf old) faults sealed NoJournal old result up (inl refl) (showing_stop (λ text. text ≡ no_message_text (codes "take") (name ∷ [])) result is)
+        → Handles sense good faults sealed (Some name) NoJournal (FrontOf (RunsTake tags name message) NoneOf old) old result old
+    untaken_handles message sealed up is = handles_still sense good (FrontOf (RunsTake tags name message) NoneOf old) faults sealed (Some name) NoJournal old result up (inl refl) (showing_stop (λ text. text ≡ no_message_text (codes "take") (name ∷ [])) result is)
 
   -- ---- joins
 
@@ -157,7 +157,7 @@ module _ {D : Type 0} (sense : Sense D) (good : List ℕ → List ℕ → List �
         (λ text is. (reply, call_of (λ before after. Joins before {T = Unit {0}} id reply after) reply old name new changes, is))
 
     pub join_handles : (sealed : Type 0) → AreUp old → Changes old name (λ before after. Joins before {T = Unit {0}} id reply after × Treats sense good faults before after reply) new → Words reply (joined_line name reply) result
-        → Handles sense good faults sealed NoJournal (FrontOf (JoinsGraph name (Ok id)) NoneOf old) old result new
+        → Handles sense good faults sealed (Some name) NoJournal (FrontOf (JoinsGraph name (Ok id)) NoneOf old) old result new
     unfolding join_gives join_refuses
     join_handles sealed up changes words =
         let reached : List (Named D) → Type 0 = FrontOf (JoinsGraph name (Ok id)) NoneOf old in
@@ -221,11 +221,11 @@ module _ {D : Type 0} (a b : Bytes) (own known : Option (List ℕ)) (old : List 
 
   module _ (sense : Sense D) (good : List ℕ → List ℕ → List ℕ → Bool) (faults : D → ℕ) (sealed : Type 0) where
     pub join_done_handles : (id : List ℕ) (result : Result Bytes RunStop) (new : List (Named D)) → graph_to_join own known ≡ Ok id
-        → Handles sense good faults sealed NoJournal (FrontOf (JoinsGraph a (Ok id)) NoneOf old) old result new → Handles sense good faults sealed NoJournal (FrontOf (RunsJoin a b) NoneOf old) old result new
+        → Handles sense good faults sealed (Some a) NoJournal (FrontOf (JoinsGraph a (Ok id)) NoneOf old) old result new → Handles sense good faults sealed (Some a) NoJournal (FrontOf (RunsJoin a b) NoneOf old) old result new
     join_done_handles id result new is h =
-        handles_more sense good faults sealed sealed NoJournal NoJournal (FrontOf (JoinsGraph a (Ok id)) NoneOf old) (FrontOf (RunsJoin a b) NoneOf old) old result new (λ x. x) (λ n c x. x) (λ l there. join_fronts id l is there) h
+        handles_more sense good faults sealed sealed (Some a) NoJournal NoJournal (FrontOf (JoinsGraph a (Ok id)) NoneOf old) (FrontOf (RunsJoin a b) NoneOf old) old result new (λ x. x) (λ n c x. x) (λ l there. join_fronts id l is there) h
 
     pub join_refused_handles : (why : Refusal) (line : Option Bytes) (result : Result Bytes RunStop) → AreUp old → graph_to_join own known ≡ Err why → WordsBy (Some why) line result
-        → Handles sense good faults sealed NoJournal (FrontOf (RunsJoin a b) NoneOf old) old result old
+        → Handles sense good faults sealed (Some a) NoJournal (FrontOf (RunsJoin a b) NoneOf old) old result old
     join_refused_handles why line result up is words =
-        handles_still sense good (FrontOf (RunsJoin a b) NoneOf old) faults sealed NoJournal old result up (inl refl) (refused_join_alone own known why line result is words)
+        handles_still sense good (FrontOf (RunsJoin a b) NoneOf old) faults sealed (Some a) NoJournal old result up (inl refl) (refused_join_alone own known why line result is words)

@@ -1,14 +1,12 @@
 -- What a call makes of its disk is what its line makes of all.
-use Rattle.std.proofs.Common.{◌≡◌, ◌⊎◌, inl, inr, ⊎_elim, ℕ, ◌+◌, ◌≤◌, Bool, List, ◌++◌, length, map, Option, None, Some, Result, Ok, Err, IfErr, OnOk, refl, sym, ap, subst, ◌∙◌, arith, append_assoc, length-append}
+use Rattle.std.proofs.Common.{◌≡◌, ◌⊎◌, inl, inr, ⊎_elim, ℕ, Bool, List, ◌++◌, length, map, Option, None, Some, Result, Ok, Err, IfErr, OnOk, refl, sym, ap, subst, ◌∙◌, arith, append_assoc, length-append}
 use Rattle.std.proofs.lemmas.Option.{same_Some}
-use Rattle.braid_run.specs.Soundness.{Criteria}
 use Rattle.braid_run.specs.States.{Held}
 use Rattle.journal.specs.declared.commit.Commit.{Commit}
 use Rattle.journal.specs.declared.fault.OpenFault.{OpenFault}
 use Rattle.outside.specs.Causes.{Rose}
-use Rattle.outside.specs.Crashes.{IsLater, LeavesOnly, MightHaveLeft, clock, moments}
+use Rattle.outside.specs.Crashes.{LeavesOnly, clock, moments}
 use Rattle.outside.specs.Disk.{Content}
-use Rattle.outside.specs.declared.faults.DiskStep.{DiskStep}
 use Rattle.outside.proofs.Crashes.{no_calls, told_before}
 use Rattle.replica.specs.Disks.{MayOpenTo, OpensToOf, Sense}
 use Rattle.replica.specs.Fronts.{Front, OpensAs, Opens, behind_commit, front_of}
@@ -23,10 +21,10 @@ use Rattle.world.specs.Stops.{SomeRose}
 use Rattle.world.specs.Worlds.{AreUp, Changes, Named, kept_of, with_kept}
 use Rattle.world.specs.declared.stop.RunStop.{RunStop}
 use Rattle.world.specs.declared.stop.RunStop.TheVariants as stop
-use Rattle.world.specs.working.Handling.{AreLater, Fares, Handles, IsDiskFault, IsSafe, Reaches, Treats, Weathers}
+use Rattle.world.specs.working.Handling.{AreLater, Fares, Fell, Handles, IsDiskFault, IsSafe, Reaches, Treats, Weathers}
 use Rattle.world.specs.working.Stopping.{IsCausedBy, IsStopBy, IsStopFor}
 use Rattle.world.specs.working.Words.{IsStoppedBy, WordsBy, refusal_of}
-use Rattle.world.proofs.PlaceFacts.{later_at, later_same, looks, rose_at, set_twice, stay_up, unchanged, up_of}
+use Rattle.world.proofs.PlaceFacts.{kept_then, later_at, later_same, looks, rose_at, set_twice, stay_up, unchanged, up_of}
 
 -- ---- moments
 
@@ -234,6 +232,13 @@ stopped_for sealed failed refused (Err why) s caused (inr is) = stop_for sealed 
 
 -- ---- a line
 
+pub fell_at : {D : Type 0} (faults : D → ℕ) (old : List (Named D)) (name : Bytes) (before after : Kept D) (new : List (Named D)) → kept_of old name ≡ Some before → new ≡ with_kept old name after
+    → Rose (faults before.disk) (faults after.disk) → Fell faults (Some name) old new
+fell_at {D = D} faults old name before after new is set rose = (
+  subst (λ (l : List (Named D)). SomeRose faults (map (λ r. r.kept.disk) old) (map (λ r. r.kept.disk) l)) (sym set) (rose_at faults old name before after is rose),
+  (name, before, after, refl, is, ap (λ (l : List (Named D)). kept_of l name) set ∙ kept_then old name before after is, rose),
+)
+
 module _ {D : Type 0} (sense : Sense D) (good : List ℕ → List ℕ → List ℕ → Bool) (reached : List (Named D) → Type 0) where
   -- what a replica that isn't called leaves
   still : (old : List (Named D)) (a : Bytes) (kept : Kept D) → kept_of old a ≡ Some kept → AreUp old → reached old → IsSafe sense good kept
@@ -299,15 +304,15 @@ module _ {D : Type 0} (sense : Sense D) (good : List ℕ → List ℕ → List �
           by (inr fell) = absurd (no_line (sym (silent fell) ∙ words))
 
       caused_then : (refused : List ℕ → OpenFault → Type 0) (line : Option Bytes) (result : Result Bytes RunStop) → WordsBy (refusal_of reply) line result
-          → IfErr result (IsStopFor sealed (SomeRose faults (map (λ r. r.kept.disk) old) (map (λ r. r.kept.disk) new)) refused)
+          → IfErr result (IsStopFor sealed (Fell faults (Some name) old new) refused)
       caused_then refused line (Ok text) words = tt
       caused_then refused line (Err s) words =
-          stop_more sealed (Rose (faults w.before.disk) (faults w.after.disk)) (SomeRose faults (map (λ r. r.kept.disk) old) (map (λ r. r.kept.disk) new)) refused s
-          (λ rose. subst (λ (l : List (Named D)). SomeRose faults (map (λ r. r.kept.disk) old) (map (λ r. r.kept.disk) l)) (sym w.set) (rose_at faults old name w.before w.after w.is rose))
+          stop_more sealed (Rose (faults w.before.disk) (faults w.after.disk)) (Fell faults (Some name) old new) refused s
+          (λ rose. fell_at faults old name w.before w.after new w.is w.set rose)
           (stopped_for sealed (Rose (faults w.before.disk) (faults w.after.disk)) refused reply s w.cause words)
 
       pub handles : (refused : List ℕ → OpenFault → Type 0) (line : Option Bytes) (result : Result Bytes RunStop) → (IsDiskFault reply → line ≡ None) → WordsBy (refusal_of reply) line result
-          → Handles sense good faults sealed refused reached old result new
+          → Handles sense good faults sealed (Some name) refused reached old result new
       handles refused line result silent words = record {
         later = subst (AreLater faults sense.honest old) (sym w.set) (later_at faults sense.honest old name w.before w.after w.is w.fares.later w.fares.as_honest);
         up = up_then line result silent words;
@@ -316,9 +321,9 @@ module _ {D : Type 0} (sense : Sense D) (good : List ℕ → List ℕ → List �
       }
 
     -- a line that changes nothing
-    pub handles_still : {T : Type 0} (sealed : Type 0) (refused : List ℕ → OpenFault → Type 0) (old : List (Named D)) (result : Result T RunStop) → AreUp old → reached old → IfErr result (λ s. s ≡ stop.NoMemory)
-        → Handles sense good faults sealed refused reached old result old
-    handles_still {T = T} sealed refused old result up there none = record {
+    pub handles_still : {T : Type 0} (sealed : Type 0) (own : Option Bytes) (refused : List ℕ → OpenFault → Type 0) (old : List (Named D)) (result : Result T RunStop) → AreUp old → reached old → IfErr result (λ s. s ≡ stop.NoMemory)
+        → Handles sense good faults sealed own refused reached old result old
+    handles_still {T = T} sealed own refused old result up there none = record {
       later = later_same faults sense.honest old;
       up = all_up result;
       cause = none_caused result none;
@@ -329,9 +334,9 @@ module _ {D : Type 0} (sense : Sense D) (good : List ℕ → List ℕ → List �
         all_up (Ok x) = up
         all_up (Err s) = tt
 
-        none_caused : (r : Result T RunStop) → IfErr r (λ s. s ≡ stop.NoMemory) → IfErr r (IsStopFor sealed (SomeRose faults (map (λ r. r.kept.disk) old) (map (λ r. r.kept.disk) old)) refused)
+        none_caused : (r : Result T RunStop) → IfErr r (λ s. s ≡ stop.NoMemory) → IfErr r (IsStopFor sealed (Fell faults own old old) refused)
         none_caused (Ok x) is = tt
-        none_caused (Err s) is = subst (IsStopFor sealed (SomeRose faults (map (λ r. r.kept.disk) old) (map (λ r. r.kept.disk) old)) refused) (sym is) tt
+        none_caused (Err s) is = subst (IsStopFor sealed (Fell faults own old old) refused) (sym is) tt
 
 -- ---- the same, said of more
 
@@ -343,10 +348,10 @@ module _ {D : Type 0} (sense : Sense D) (good : List ℕ → List ℕ → List �
   wider_stop sealed more failed refused others to on (stop.Journal name cause) is = on name cause is
   wider_stop sealed more failed refused others to on stop.NoMemory is = tt
 
-  pub handles_more : {T : Type 0} (sealed more : Type 0) (refused others : List ℕ → OpenFault → Type 0) (reached wider : List (Named D) → Type 0) (old : List (Named D)) (result : Result T RunStop) (new : List (Named D))
+  pub handles_more : {T : Type 0} (sealed more : Type 0) (own : Option Bytes) (refused others : List ℕ → OpenFault → Type 0) (reached wider : List (Named D) → Type 0) (old : List (Named D)) (result : Result T RunStop) (new : List (Named D))
       → (sealed → more) → ((n : List ℕ) (c : OpenFault) → refused n c → others n c) → ((l : List (Named D)) → reached l → wider l)
-      → Handles sense good faults sealed refused reached old result new → Handles sense good faults more others wider old result new
-  handles_more {T = T} sealed more refused others reached wider old result new to on wide h = record {
+      → Handles sense good faults sealed own refused reached old result new → Handles sense good faults more own others wider old result new
+  handles_more {T = T} sealed more own refused others reached wider old result new to on wide h = record {
     later = h.later;
     up = h.up;
     cause = by result h.cause;
@@ -359,7 +364,7 @@ module _ {D : Type 0} (sense : Sense D) (good : List ℕ → List ℕ → List �
         );
   }
     where
-      by : (r : Result T RunStop) → IfErr r (IsStopFor sealed (SomeRose faults (map (λ r. r.kept.disk) old) (map (λ r. r.kept.disk) new)) refused)
-          → IfErr r (IsStopFor more (SomeRose faults (map (λ r. r.kept.disk) old) (map (λ r. r.kept.disk) new)) others)
+      by : (r : Result T RunStop) → IfErr r (IsStopFor sealed (Fell faults own old new) refused)
+          → IfErr r (IsStopFor more (Fell faults own old new) others)
       by (Ok x) is = tt
-      by (Err s) is = wider_stop sealed more (SomeRose faults (map (λ r. r.kept.disk) old) (map (λ r. r.kept.disk) new)) refused others to on s is
+      by (Err s) is = wider_stop sealed more (Fell faults own old new) refused others to on s is

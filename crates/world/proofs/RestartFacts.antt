@@ -1,5 +1,5 @@
 -- A restart: what is held stays where the disk is trusted.
-use Rattle.std.proofs.Common.{◌≡◌, ◌⊎◌, inl, inr, ℕ, Bool, List, length, map, Option, None, Some, Result, Ok, Err, IfErr, OnOk, refl, sym, ap, subst, ◌∙◌}
+use Rattle.std.proofs.Common.{◌≡◌, ◌⊎◌, inl, inr, ℕ, Bool, List, length, Option, None, Some, Result, Ok, Err, IfErr, OnOk, refl, sym, ap, subst, ◌∙◌}
 use Rattle.std.proofs.lemmas.Option.{same_Some}
 use Rattle.journal.specs.declared.commit.Commit.{Commit}
 use Rattle.journal.specs.declared.fault.OpenFault.{OpenFault}
@@ -14,16 +14,15 @@ use Rattle.replica.specs.declared.refusal.Refusal.TheVariants as refusal
 use Rattle.script_texts.specs.Bytes.{Bytes}
 use Rattle.world.specs.Lines.{RunsRestart}
 use Rattle.world.specs.Replies.{restarted_line}
-use Rattle.world.specs.Stops.{SomeRose}
-use Rattle.world.specs.Worlds.{AreAlike, AreUp, Changes, Named, Of, kept_of, with_kept}
+use Rattle.world.specs.Stops.{IsRestartStop, RestartWords}
+use Rattle.world.specs.Worlds.{AreAlike, AreUp, Changes, Named, Of, with_kept}
 use Rattle.world.specs.declared.stop.RunStop.{RunStop}
 use Rattle.world.specs.declared.stop.RunStop.TheVariants as stop
-use Rattle.world.specs.working.Handling.{Fares, Handles, IsDiskFault, Reaches, RefusesAt, RestartsOn, Weathers}
+use Rattle.world.specs.working.Handling.{Fares, Fell, Handles, IsDiskFault, Reaches, RefusesAt, RestartsOn, Weathers}
 use Rattle.world.specs.working.Running.{Changing, FrontOf, NoneOf}
-use Rattle.world.specs.working.Stopping.{IsRestartStop, IsStopFor, NoJournal}
-use Rattle.world.specs.working.Words.{RestartWords}
-use Rattle.world.proofs.HandleFacts.{handles, leaves_more, open_front}
-use Rattle.world.proofs.PlaceFacts.{alike_at, rose_at, stay_up, unchanged, up_of}
+use Rattle.world.specs.working.Stopping.{IsStopFor, NoJournal}
+use Rattle.world.proofs.HandleFacts.{fell_at, handles, leaves_more, open_front}
+use Rattle.world.proofs.PlaceFacts.{alike_at, stay_up, unchanged, up_of}
 
 no_commit : (commit : Commit) → ◌≡◌ {A = Option Commit} None (Some commit) → ⊥
 no_commit commit is = absurd cc
@@ -149,16 +148,16 @@ module _ {D : Type 0} (sense : Sense D) (good : List ℕ → List ℕ → List �
       by (Err why) (inr (step, is, same)) rose = inr (step, record { before = before; after = after; is = changes.2; set = set; up = inr (step, refl); cause = rose (step, ap Err is); fares = fares })
 
   -- disks and crashes, whatever is printed
-  without_words : Handles sense good faults {T = Bytes} ⊥ NoJournal reached old (Err stop.NoMemory) new
+  without_words : Handles sense good faults {T = Bytes} ⊥ (Some name) NoJournal reached old (Err stop.NoMemory) new
   without_words = by weathers
     where
       by : Weathers sense good faults {T = ℕ} ⊥ reached old name (Err refusal.NoMemory) new ⊎ ((step : DiskStep) × Weathers sense good faults {T = ℕ} ⊥ reached old name (Err (refusal.DiskFault step)) new)
-          → Handles sense good faults {T = Bytes} ⊥ NoJournal reached old (Err stop.NoMemory) new
+          → Handles sense good faults {T = Bytes} ⊥ (Some name) NoJournal reached old (Err stop.NoMemory) new
       by (inl w) = handles sense good reached faults ⊥ old name (Err refusal.NoMemory) new up (inl refl) w NoJournal None (Err stop.NoMemory) (λ fell. refl) (inl refl)
       by (inr (step, w)) = handles sense good reached faults ⊥ old name (Err (refusal.DiskFault step)) new up (inl refl) w NoJournal None (Err stop.NoMemory) (λ fell. refl) (inl refl)
 
   abbrev causes : RunStop → Type 0
-  causes s = IsStopFor ⊥ (SomeRose faults (map (λ r. r.kept.disk) old) (map (λ r. r.kept.disk) new)) (RefusesAt sense good old name) s
+  causes s = IsStopFor ⊥ (Fell faults (Some name) old new) (RefusesAt sense good old name) s
 
   refuses_journal : (cause : OpenFault) → IsRefusedJournal cause → reply ≡ Err (refusal.Journal cause) → RefusesAt sense good old name name cause
   refuses_journal cause refused is = (
@@ -183,7 +182,7 @@ module _ {D : Type 0} (sense : Sense D) (good : List ℕ → List ℕ → List �
       by (inr named) = subst causes (sym named) (refuses_journal cause refused (told ∙ ap Err is))
   restart_caused why s told (inr (step, is, same)) stops =
       subst causes (sym (subst (λ w. IsRestartStop name w s) is stops))
-      (subst (λ (l : List (Named D)). SomeRose faults (map (λ r. r.kept.disk) old) (map (λ r. r.kept.disk) l)) (sym set) (rose_at faults old name before after changes.2 (restarts.treats.cause (step, told ∙ ap Err is))))
+      (fell_at faults old name before after new changes.2 set (restarts.treats.cause (step, told ∙ ap Err is)))
 
   cause_by : (r : Result ℕ Refusal) (result : Result Bytes RunStop) → reply ≡ r → Restarts before r after → RestartWords name r result → IfErr result causes
   cause_by r (Ok text) told runs words = tt
@@ -195,7 +194,7 @@ module _ {D : Type 0} (sense : Sense D) (good : List ℕ → List ℕ → List �
   up_by (Ok count) (Ok text) (held, counted, run, is) words = subst AreUp (sym set) (stay_up old name after up (ap (λ (k : Kept D). k.down) is.same))
   up_by (Err why) (Ok text) runs words = absurd words
 
-  pub restart_handles : (result : Result Bytes RunStop) → RestartWords name reply result → Handles sense good faults ⊥ (RefusesAt sense good old name) (FrontOf (RunsRestart name) NoneOf old) old result new
+  pub restart_handles : (result : Result Bytes RunStop) → RestartWords name reply result → Handles sense good faults ⊥ (Some name) (RefusesAt sense good old name) (FrontOf (RunsRestart name) NoneOf old) old result new
   restart_handles result words = record {
     later = without_words.later;
     up = up_by reply result restarts.restarts words;

@@ -1,11 +1,10 @@
 -- A session as its functions make it: how far it came, and what became of A's disk.
-use Rattle.std.proofs.Common.{◌≡◌, ◌⊎◌, inl, inr, ℕ, ◌+◌, ◌<◌, ◌≤◌, ◌^◌, ◌-◌, min, Bool, true, List, [], ◌∷◌, codes, Option, Some, None, option_map, Result, Ok, Err, IfErr, refl, sym, ap, subst, ◌∙◌, arith}
+use Rattle.std.proofs.Common.{◌≡◌, ◌⊎◌, inl, inr, ℕ, ◌+◌, ◌<◌, ◌≤◌, ◌^◌, ◌-◌, min, true, List, [], ◌∷◌, codes, Option, Some, None, option_map, Result, Ok, Err, IfErr, refl, sym, ap, subst, ◌∙◌, arith}
 use Rattle.std.proofs.lemmas.Option.{same_Some}
 use Rattle.std.proofs.Math.Nat.{le-min, min-le_left, min-le_right}
-use Rattle.std.specs.Str.{bytes_eq}
 use Rattle.base_bytes.specs.Laws.{IsUnambiguous}
 use Rattle.braid_run.specs.States.{Held}
-use Rattle.outside.specs.Causes.{Rose, next_count}
+use Rattle.outside.specs.Causes.{Rose}
 use Rattle.outside.specs.declared.faults.DiskStep.{DiskStep}
 use Rattle.replica.specs.Calls.{Answers, Asks, AsksNext, IsTakeOf, TakesIn}
 use Rattle.replica.specs.Disks.{Sense}
@@ -17,7 +16,6 @@ use Rattle.replica.specs.declared.refusal.Refusal.TheVariants as refusal
 use Rattle.script_texts.specs.Bytes.{Bytes}
 use Rattle.script_texts.specs.Replies.{refused_text}
 use Rattle.sync_codec.specs.Messages.{IsRequest, IsResponse}
-use Rattle.sync_codec.specs.declared.request.Request.{Request}
 use Rattle.sync_codec.specs.declared.response.Response.{Response}
 use Rattle.transaction.specs.declared.fault.ActFault.{ActFault}
 use Rattle.transaction.specs.declared.fault.ActFault.TheVariants as fault
@@ -35,7 +33,7 @@ use Rattle.world.specs.working.Rounds.{GoesRound, RunsSession, TakesAndAsks, Tak
 use Rattle.world.specs.working.Running.{Changing, FrontOf}
 use Rattle.world.specs.working.Stopping.{IsCausedBy, NoJournal}
 use Rattle.world.specs.working.Words.{Words}
-use Rattle.world.proofs.CauseFacts.{answers_mild, asks_mild, is_mild, mild_caused, next_mild, read_mild}
+use Rattle.world.proofs.CauseFacts.{answers_mild, asks_mild, mild_caused, next_mild, read_mild}
 use Rattle.world.proofs.HandleFacts.{fares_on, fares_step, fares_still, handles, step_alike, step_caused, step_judged, step_up}
 use Rattle.world.proofs.PlaceFacts.{alike_at, alike_same, kept_then, named_then, set_twice, stay_up, unchanged, up_of}
 use Rattle.world.proofs.RoundFacts.{AsksBehind, IsFurther, IsSmall, Meets, asks_first, few_met, further, met_commands, read_form, small, taken_meets}
@@ -418,6 +416,6 @@ module _ {D : Type 0} (tags : Tags) (a b : Bytes) where
 
   pub sync_handles : (sense : Sense D) (faults : D → ℕ) (old new : List (Named D)) (reply : Result Sum Refusal) (result : Result Bytes RunStop) → AreUp old
       → Weathers sense tags.good faults ⊥ (FrontOf (RunsSync tags a b) (Came tags a b) old) old a reply new → Words reply (synced_line a b reply) result
-      → Handles sense tags.good faults ⊥ NoJournal (FrontOf (RunsSync tags a b) (Came tags a b) old) old result new
+      → Handles sense tags.good faults ⊥ (Some a) NoJournal (FrontOf (RunsSync tags a b) (Came tags a b) old) old result new
   sync_handles sense faults old new reply result up w words =
       handles sense tags.good (FrontOf (RunsSync tags a b) (Came tags a b) old) faults ⊥ old a reply new up (inl refl) w NoJournal (synced_line a b reply) result (λ fell. ap (synced_line a b) fell.1) words

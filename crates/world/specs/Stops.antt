@@ -1,18 +1,21 @@
 -- What stops a run, and what a stop leaves.
-use Rattle.std.specs.Prelude.{◌≡◌, ◌⊎◌, ℕ, ◌≤◌, Bool, IsTrue, List, [], ◌∷◌, ◌++◌, Result, Ok, Err}
+use Rattle.std.specs.Prelude.{◌≡◌, ◌⊎◌, ℕ, ◌≤◌, Bool, IsTrue, List, [], ◌∷◌, ◌++◌, Option, Some, None, MatchResult, Result, Ok, Err}
 use Rattle.journal.specs.declared.fault.OpenFault.{OpenFault}
 use Rattle.outside.specs.Causes.{Rose}
-use Rattle.replica.specs.Calls.{IsRefusedJournal}
+use Rattle.replica.specs.Calls.{IsRefusedJournal, Restarts, restart_opens}
 use Rattle.replica.specs.Disks.{IsTrusted, Sense}
 use Rattle.replica.specs.Fronts.{AnswersOpening}
-use Rattle.replica.specs.Kept.{criteria_of}
+use Rattle.replica.specs.Kept.{Kept, criteria_of}
 use Rattle.replica.specs.declared.counts.Taken.{Taken}
+use Rattle.replica.specs.declared.refusal.Refusal.{Refusal}
+use Rattle.replica.specs.declared.refusal.Refusal.TheVariants as refusal
 use Rattle.script.specs.declared.line.Line.{Line}
 use Rattle.script.specs.declared.line.Line.TheVariants as line
 use Rattle.script_texts.specs.Bytes.{Bytes}
 use Rattle.world.specs.Lines.{Runs, Tags}
+use Rattle.world.specs.Replies.{restarted_line}
 use Rattle.world.specs.Sessions.{Goes, IsHalfRound, Sum}
-use Rattle.world.specs.Worlds.{AreAlike, EachPair, Named, Of, Site}
+use Rattle.world.specs.Worlds.{AreAlike, Changes, EachPair, Named, Of, Site, kept_of}
 use Rattle.world.specs.declared.stop.RunStop.{RunStop}
 use Rattle.world.specs.declared.stop.RunStop.TheVariants as stop
 
@@ -43,10 +46,50 @@ abbrev pub RefusesJournal : {D : Type 0} → Sense D → (List ℕ → List ℕ 
 RefusesJournal sense good replicas one name cause =
     (one ≡ line.Restart name) × IsRefusedJournal cause × Of replicas name (λ kept. (IsTrue sense.tells → AnswersOpening (criteria_of good kept) (sense.content kept.disk).reads (Err cause)) × (IsTrusted good sense kept → ⊥))
 
+-- The replica that a line may change, by its name.
+abbrev pub changed_name : Line → Option Bytes
+changed_name (line.Init a f args) = Some a
+changed_name (line.Join a b) = Some a
+changed_name (line.Act a f args) = Some a
+changed_name (line.Sync a b) = Some a
+changed_name (line.Take a n) = Some a
+changed_name (line.Restart a) = Some a
+changed_name other = None
+
+-- The count of the disk of this replica rose.
+abbrev pub OwnRose : {D : Type 0} → (D → ℕ) → Option Bytes → List (Named D) → List (Named D) → Type 0
+OwnRose {D = D} faults own old new =
+    (a : Bytes) × (before after : Kept D) × (own ≡ Some a) × (kept_of old a ≡ Some before) × (kept_of new a ≡ Some after) × Rose (faults before.disk) (faults after.disk)
+
 -- A restart gives back what was held where the disk is trusted. No other line asks for that.
 abbrev pub IsSteady : {D : Type 0} → Sense D → (List ℕ → List ℕ → List ℕ → Bool) → List (Named D) → Line → Type 0
 IsSteady sense good replicas (line.Restart a) = Of replicas a (IsTrusted good sense)
 IsSteady sense good replicas other = Unit {0}
+
+-- What a refused restart of the replica of this name stops a run with. Memory may lack for the name.
+abbrev pub IsRestartStop : Bytes → Refusal → RunStop → Type 0
+IsRestartStop name (refusal.Journal cause) why = (why ≡ stop.NoMemory) ⊎ (why ≡ stop.Journal name cause)
+IsRestartStop name (refusal.DiskFault step) why = why ≡ stop.DiskFault
+IsRestartStop name other why = why ≡ stop.NoMemory
+
+-- What a restart says, how many commands are held; or it stops. All its refusals stop the run.
+abbrev pub RestartWords : Bytes → Result ℕ Refusal → Result Bytes RunStop → Type 0
+RestartWords name (Ok held) result = MatchResult result (λ text. restarted_line name (Ok held) ≡ Some text) (λ why. why ≡ stop.NoMemory)
+RestartWords name (Err refused) result = MatchResult result (λ text. ⊥) (λ why. IsRestartStop name refused why)
+
+-- A `restart` line on whatever disk: the replica of the name, and no other, opens its disk again. Where disks tell, it then holds what its disk reads, or that is
+-- refused.
+abbrev pub Reopens : {D : Type 0} → Sense D → (List ℕ → List ℕ → List ℕ → Bool) → List (Named D) → Line → Result Bytes RunStop → List (Named D) → Type 0
+Reopens sense good old (line.Restart a) result new =
+    (reply : Result ℕ Refusal)
+    × Changes old a (λ before after. Restarts before reply after × (IsTrue sense.tells → AnswersOpening (criteria_of good before) (sense.content before.disk).reads (restart_opens reply after))) new
+    × RestartWords a reply result
+Reopens sense good old other result new = Unit {0}
+
+-- The same of a step, which appends the text.
+abbrev pub StepsReopening : {T D : Type 0} → Sense D → (List ℕ → List ℕ → List ℕ → Bool) → Site D → Line → Bytes → Result T RunStop → Bytes → Site D → Type 0
+StepsReopening sense good old one before (Ok done) after new = (text : Bytes) × Reopens sense good old.replicas one (Ok text) new.replicas × (after ≡ before ++ text)
+StepsReopening sense good old one before (Err why) after new = Reopens sense good old.replicas one (Err why) new.replicas × (after ≡ before)
 
 -- Only these lines ask for seals.
 abbrev pub Acts : Line → Type 0

@@ -5,8 +5,10 @@ ghost use Rattle.std.specs.Option.{option_copied};
 ghost use Rattle.outside.specs.Causes.{Rose};
 ghost use Rattle.replica.specs.Calls.{ActsIn, Begins};
 ghost use Rattle.replica.specs.Disks.{IsTrusted};
+ghost use Rattle.script.specs.declared.line.Line.TheVariants as line;
 ghost use Rattle.script_texts.specs.Replies.{no_message_text};
 ghost use Rattle.world.specs.Lines.{RunsAction, RunsJoin, RunsRestart, RunsTake, action_of, graph_to_join};
+ghost use Rattle.world.specs.Stops.{Reopens};
 ghost use Rattle.world.specs.Worlds.{AreUp, Of};
 ghost use Rattle.world.specs.working.Handling.{Handles, RefusesAt};
 ghost use Rattle.world.specs.working.Places.{is_named};
@@ -41,7 +43,7 @@ pub fn init_line<R: Runner, G: Graph, F: FactBase, D: Disk, E: Envelope, L: Ledg
     requires up { AreUp replicas.old.items }
     ensures line { Changing (RunsAction (codes "init") name.now (λ kept. Begins kept E.good E.tag_of (action_of action.now args.now true))) NoneOf replicas.old.items result replicas.new.items }
     ensures later { E.faults env.old ≤ E.faults env.new }
-    ensures disks { Handles (record { tells = D.tells; content = D.content; honest = D.honest }) E.good D.faults (Rose (E.faults env.old) (E.faults env.new)) NoJournal (FrontOf (RunsAction (codes "init") name.now (λ kept. Begins kept E.good E.tag_of (action_of action.now args.now true))) NoneOf replicas.old.items) replicas.old.items result replicas.new.items }
+    ensures disks { Handles (record { tells = D.tells; content = D.content; honest = D.honest }) E.good D.faults (Rose (E.faults env.old) (E.faults env.new)) (Some name.now) NoJournal (FrontOf (RunsAction (codes "init") name.now (λ kept. Begins kept E.good E.tag_of (action_of action.now args.now true))) NoneOf replicas.old.items) replicas.old.items result replicas.new.items }
 {
     let reply = init(alloc, replicas, name, action, args, env, steps);
     published_line(alloc, "init", name, reply)
@@ -61,7 +63,7 @@ pub fn act_line<R: Runner, G: Graph, F: FactBase, D: Disk, E: Envelope, L: Ledge
     requires up { AreUp replicas.old.items }
     ensures line { Changing (RunsAction (codes "act") name.now (λ kept. ActsIn kept E.good E.tag_of (action_of action.now args.now false))) NoneOf replicas.old.items result replicas.new.items }
     ensures later { E.faults env.old ≤ E.faults env.new }
-    ensures disks { Handles (record { tells = D.tells; content = D.content; honest = D.honest }) E.good D.faults (Rose (E.faults env.old) (E.faults env.new)) NoJournal (FrontOf (RunsAction (codes "act") name.now (λ kept. ActsIn kept E.good E.tag_of (action_of action.now args.now false))) NoneOf replicas.old.items) replicas.old.items result replicas.new.items }
+    ensures disks { Handles (record { tells = D.tells; content = D.content; honest = D.honest }) E.good D.faults (Rose (E.faults env.old) (E.faults env.new)) (Some name.now) NoJournal (FrontOf (RunsAction (codes "act") name.now (λ kept. ActsIn kept E.good E.tag_of (action_of action.now args.now false))) NoneOf replicas.old.items) replicas.old.items result replicas.new.items }
 {
     let reply = act(alloc, replicas, name, action, args, env, steps);
     published_line(alloc, "act", name, reply)
@@ -89,7 +91,7 @@ pub fn join_line<R: Runner, G: Graph, F: FactBase, D: Disk>(
     requires up { AreUp replicas.old.items }
     requires other { is_named replicas.old.items other.now ≡ true }
     ensures line { Changing (RunsJoin name.now other.now) NoneOf replicas.old.items result replicas.new.items }
-    ensures disks { (good : List ℕ → List ℕ → List ℕ → Bool) → Handles (record { tells = D.tells; content = D.content; honest = D.honest }) good D.faults ⊥ NoJournal (FrontOf (RunsJoin name.now other.now) NoneOf replicas.old.items) replicas.old.items result replicas.new.items }
+    ensures disks { (good : List ℕ → List ℕ → List ℕ → Bool) → Handles (record { tells = D.tells; content = D.content; honest = D.honest }) good D.faults ⊥ (Some name.now) NoJournal (FrontOf (RunsJoin name.now other.now) NoneOf replicas.old.items) replicas.old.items result replicas.new.items }
 {
     let own = graph_of(replicas.as_slice(), name);
     let known = graph_of(replicas.as_slice(), other);
@@ -121,7 +123,7 @@ fn take_message<R: Runner, G: Graph, F: FactBase, D: Disk, E: Envelope, L: Ledge
     requires there { is_named replicas.old.items name.now ≡ true }
     requires up { AreUp replicas.old.items }
     ensures line { Changing (RunsTake (record { good = E.good; told = E.tag_of }) name.now (Some message.now)) NoneOf replicas.old.items result replicas.new.items }
-    ensures disks { Handles (record { tells = D.tells; content = D.content; honest = D.honest }) E.good D.faults ⊥ NoJournal (FrontOf (RunsTake (record { good = E.good; told = E.tag_of }) name.now (Some message.now)) NoneOf replicas.old.items) replicas.old.items result replicas.new.items }
+    ensures disks { Handles (record { tells = D.tells; content = D.content; honest = D.honest }) E.good D.faults ⊥ (Some name.now) NoJournal (FrontOf (RunsTake (record { good = E.good; told = E.tag_of }) name.now (Some message.now)) NoneOf replicas.old.items) replicas.old.items result replicas.new.items }
 {
     let reply = take(alloc, replicas, name, message, env, steps);
     taken_line(alloc, name, reply)
@@ -139,7 +141,7 @@ pub fn take_line<R: Runner, G: Graph, F: FactBase, D: Disk, E: Envelope, L: Ledg
     requires there { is_named replicas.old.items name.now ≡ true }
     requires up { AreUp replicas.old.items }
     ensures line { Changing (RunsTake (record { good = E.good; told = E.tag_of }) name.now (option_copied message.entry)) NoneOf replicas.old.items result replicas.new.items }
-    ensures disks { Handles (record { tells = D.tells; content = D.content; honest = D.honest }) E.good D.faults ⊥ NoJournal (FrontOf (RunsTake (record { good = E.good; told = E.tag_of }) name.now (option_copied message.entry)) NoneOf replicas.old.items) replicas.old.items result replicas.new.items }
+    ensures disks { Handles (record { tells = D.tells; content = D.content; honest = D.honest }) E.good D.faults ⊥ (Some name.now) NoJournal (FrontOf (RunsTake (record { good = E.good; told = E.tag_of }) name.now (option_copied message.entry)) NoneOf replicas.old.items) replicas.old.items result replicas.new.items }
 {
     match message {
         Some(message) => take_message(alloc, replicas, name, message.as_slice(), env, steps),
@@ -157,7 +159,8 @@ pub fn restart_line<R: Runner, G: Graph, F: FactBase, D: Disk, E: Envelope>(
     requires there { is_named replicas.old.items name.now ≡ true }
     requires up { AreUp replicas.old.items }
     ensures line { Of replicas.old.items name.now (IsTrusted E.good (record { tells = D.tells; content = D.content; honest = D.honest })) → Changing (RunsRestart name.now) NoneOf replicas.old.items result replicas.new.items }
-    ensures disks { Handles (record { tells = D.tells; content = D.content; honest = D.honest }) E.good D.faults ⊥ (RefusesAt (record { tells = D.tells; content = D.content; honest = D.honest }) E.good replicas.old.items name.now) (FrontOf (RunsRestart name.now) NoneOf replicas.old.items) replicas.old.items result replicas.new.items }
+    ensures reopens { Reopens (record { tells = D.tells; content = D.content; honest = D.honest }) E.good replicas.old.items (line.Restart name.now) result replicas.new.items }
+    ensures disks { Handles (record { tells = D.tells; content = D.content; honest = D.honest }) E.good D.faults ⊥ (Some name.now) (RefusesAt (record { tells = D.tells; content = D.content; honest = D.honest }) E.good replicas.old.items name.now) (FrontOf (RunsRestart name.now) NoneOf replicas.old.items) replicas.old.items result replicas.new.items }
 {
     let reply = restart(alloc, replicas, name, env);
     restarted_line(alloc, name, reply)

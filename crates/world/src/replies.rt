@@ -7,8 +7,8 @@ ghost use Rattle.sync_codec.specs.Messages.{IsResponse};
 ghost use Rattle.sync_codec.specs.declared.response.Response.{Response as TheResponse};
 ghost use Rattle.world.specs.Reasons.{shown_refusals};
 ghost use Rattle.world.specs.Replies.{IsAnswerLine, asked_line, joined_line, message_of, next_line, next_message_of, published_line, refused_line, taken_line};
-ghost use Rattle.world.specs.working.Stopping.{IsRestartStop};
-ghost use Rattle.world.specs.working.Words.{AnswerWords, RestartWords, Words, WordsAndMessage, WordsBy};
+ghost use Rattle.world.specs.Stops.{IsRestartStop, RestartWords};
+ghost use Rattle.world.specs.working.Words.{AnswerWords, Words, WordsAndMessage, WordsBy};
 
 use crate::reasons::{command_refusal, line_refusal};
 use crate::said::Said;

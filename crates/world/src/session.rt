@@ -1,6 +1,6 @@
 //! `sync A B`: a session of two replicas.
 
-ghost use Rattle.std.specs.Prelude.{◌≡◌, true};
+ghost use Rattle.std.specs.Prelude.{◌≡◌, Some, true};
 ghost use Rattle.world.specs.Lines.{RunsSync};
 ghost use Rattle.world.specs.Sessions.{synced_line};
 ghost use Rattle.world.specs.Stops.{Came};
@@ -138,7 +138,7 @@ pub fn sync_line<R: Runner, G: Graph, F: FactBase, D: Disk, E: Envelope, L: Ledg
     requires b { is_named replicas.old.items b.now ≡ true }
     requires up { AreUp replicas.old.items }
     ensures line { Changing (RunsSync (record { good = E.good; told = E.tag_of }) a.now b.now) (Came (record { good = E.good; told = E.tag_of }) a.now b.now) replicas.old.items result replicas.new.items }
-    ensures disks { Handles (record { tells = D.tells; content = D.content; honest = D.honest }) E.good D.faults ⊥ NoJournal (FrontOf (RunsSync (record { good = E.good; told = E.tag_of }) a.now b.now) (Came (record { good = E.good; told = E.tag_of }) a.now b.now) replicas.old.items) replicas.old.items result replicas.new.items }
+    ensures disks { Handles (record { tells = D.tells; content = D.content; honest = D.honest }) E.good D.faults ⊥ (Some a.now) NoJournal (FrontOf (RunsSync (record { good = E.good; told = E.tag_of }) a.now b.now) (Came (record { good = E.good; told = E.tag_of }) a.now b.now) replicas.old.items) replicas.old.items result replicas.new.items }
 {
     let reply = session(alloc, replicas, a, b, env, steps);
     synced_line(alloc, a, b, reply)

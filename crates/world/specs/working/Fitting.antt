@@ -5,13 +5,14 @@ use Rattle.replica.specs.Disks.{Sense}
 use Rattle.script.specs.declared.line.Line.{Line}
 use Rattle.script_texts.specs.Bytes.{Bytes}
 use Rattle.world.specs.Lines.{Tags}
-use Rattle.world.specs.Stops.{Acts, IsSteady, RefusesJournal, SomeOf}
+use Rattle.world.specs.Stops.{Acts, IsSteady, RefusesJournal, Reopens, SomeOf, changed_name}
 use Rattle.world.specs.Worlds.{Named}
 use Rattle.world.specs.declared.stop.RunStop.{RunStop}
 use Rattle.world.specs.working.Handling.{Handles}
 use Rattle.world.specs.working.Running.{Changing, FrontOf, RunsIn}
 
--- How the line goes, and what becomes of the disks.
+-- How the line goes, what becomes of the disks, and what a restart does on any.
 pub record Fits {D : Type 0} (tags : Tags) (messages : List (Option Bytes)) (sense : Sense D) (faults : D → ℕ) (before now : ℕ) (old : List (Named D)) (result : Result Bytes RunStop) (new : List (Named D)) (one : Line) : Type 0 where
   pub goes : IsSteady sense tags.good old one → Changing (RunsIn tags messages one) (SomeOf tags one) old result new
-  pub disks : Handles sense tags.good faults (Acts one × Rose before now) (RefusesJournal sense tags.good old one) (FrontOf (RunsIn tags messages one) (SomeOf tags one) old) old result new
+  pub disks : Handles sense tags.good faults (Acts one × Rose before now) (changed_name one) (RefusesJournal sense tags.good old one) (FrontOf (RunsIn tags messages one) (SomeOf tags one) old) old result new
+  pub reopens : Reopens sense tags.good old one result new

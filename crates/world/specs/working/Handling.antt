@@ -1,5 +1,5 @@
 -- What calls make of a replica's disk, and what lines make of all disks, whatever they answer.
-use Rattle.std.specs.Prelude.{◌≡◌, ◌⊎◌, ◌≤◌, ℕ, Bool, IsTrue, List, map, None, Some, IfErr, OnOk, Result, Ok, Err}
+use Rattle.std.specs.Prelude.{◌≡◌, ◌⊎◌, ◌≤◌, ℕ, Bool, IsTrue, List, map, Option, None, Some, IfErr, OnOk, Result, Err}
 use Rattle.journal.specs.declared.fault.OpenFault.{OpenFault}
 use Rattle.outside.specs.Causes.{Rose}
 use Rattle.outside.specs.Crashes.{LeavesOnly}
@@ -12,7 +12,7 @@ use Rattle.replica.specs.declared.refusal.Refusal.{Refusal}
 use Rattle.replica.specs.declared.refusal.Refusal.TheVariants as refusal
 use Rattle.script_texts.specs.Bytes.{Bytes}
 use Rattle.world.specs.Crashes.{AreSafe, OpenAtEachMoment}
-use Rattle.world.specs.Stops.{SomeRose}
+use Rattle.world.specs.Stops.{OwnRose, SomeRose}
 use Rattle.world.specs.Worlds.{AreUp, EachPair, Named, Of, kept_of, with_kept}
 use Rattle.world.specs.declared.stop.RunStop.{RunStop}
 use Rattle.world.specs.working.Stopping.{IsCausedBy, IsStopFor}
@@ -24,6 +24,10 @@ IsDiskFault reply = (step : DiskStep) × (reply ≡ Err (refusal.DiskFault step)
 -- The names stay, no count of faults falls, and each disk is as honest as it was.
 abbrev pub AreLater : {D : Type 0} → (D → ℕ) → (D → Bool) → List (Named D) → List (Named D) → Type 0
 AreLater faults honest old new = EachPair (λ r s. (s.name ≡ r.name) × (faults r.kept.disk ≤ faults s.kept.disk) × (honest s.kept.disk ≡ honest r.kept.disk)) old new
+
+-- The count of a disk rose: that of this replica.
+abbrev pub Fell : {D : Type 0} → (D → ℕ) → Option Bytes → List (Named D) → List (Named D) → Type 0
+Fell faults own old new = SomeRose faults (map (λ r. r.kept.disk) old) (map (λ r. r.kept.disk) new) × OwnRose faults own old new
 
 module _ {D : Type 0} (good : List ℕ → List ℕ → List ℕ → Bool) where
   -- Replicas that were reached differ from the old ones in the replica of this name alone, which holds this front there.
@@ -80,9 +84,9 @@ module _ {D : Type 0} (sense : Sense D) (good : List ℕ → List ℕ → List �
 
     -- ---- all replicas
 
-    -- A line, whatever it answers.
-    pub record Handles {T : Type 0} (sealed : Type 0) (refused : List ℕ → OpenFault → Type 0) (reached : List (Named D) → Type 0) (old : List (Named D)) (result : Result T RunStop) (new : List (Named D)) : Type 0 where
+    -- A line, whatever it answers. `own` names the replica that it may change.
+    pub record Handles {T : Type 0} (sealed : Type 0) (own : Option Bytes) (refused : List ℕ → OpenFault → Type 0) (reached : List (Named D) → Type 0) (old : List (Named D)) (result : Result T RunStop) (new : List (Named D)) : Type 0 where
       pub later : AreLater faults sense.honest old new
       pub up : OnOk result (AreUp new)
-      pub cause : IfErr result (IsStopFor sealed (SomeRose faults (map (λ r. r.kept.disk) old) (map (λ r. r.kept.disk) new)) refused)
+      pub cause : IfErr result (IsStopFor sealed (Fell faults own old new) refused)
       pub crash : AreSafe sense good old → AreSafe sense good new × OpenAtEachMoment sense good reached old new

@@ -1,9 +1,8 @@
 -- What a refusal stops a run with, and what a stop tells of.
-use Rattle.std.specs.Prelude.{◌≡◌, ◌⊎◌, List, ℕ}
+use Rattle.std.specs.Prelude.{◌≡◌, List, ℕ}
 use Rattle.journal.specs.declared.fault.OpenFault.{OpenFault}
 use Rattle.replica.specs.declared.refusal.Refusal.{Refusal}
 use Rattle.replica.specs.declared.refusal.Refusal.TheVariants as refusal
-use Rattle.script_texts.specs.Bytes.{Bytes}
 use Rattle.transaction.specs.declared.fault.ActFault.TheVariants as fault
 use Rattle.world.specs.declared.stop.RunStop.{RunStop}
 use Rattle.world.specs.declared.stop.RunStop.TheVariants as stop
@@ -17,12 +16,6 @@ IsStopBy (refusal.Down step) why = why ≡ stop.DiskFault
 IsStopBy (refusal.Journal cause) why = why ≡ stop.DiskFault
 IsStopBy refusal.NoMemory why = why ≡ stop.NoMemory
 IsStopBy other why = ⊥
-
--- What a restart of the replica of this name is stopped with.
-abbrev pub IsRestartStop : Bytes → Refusal → RunStop → Type 0
-IsRestartStop name (refusal.Journal cause) why = (why ≡ stop.NoMemory) ⊎ (why ≡ stop.Journal name cause)
-IsRestartStop name (refusal.DiskFault step) why = why ≡ stop.DiskFault
-IsRestartStop name other why = why ≡ stop.NoMemory
 
 -- What a refusal tells of that stops a run: a failed seal, or a failed disk. A replica that is up never says that it is down.
 abbrev pub IsCausedBy : Type 0 → Type 0 → Refusal → Type 0

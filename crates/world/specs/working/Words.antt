@@ -1,9 +1,9 @@
 -- What the functions that put replies into words say.
-use Rattle.std.specs.Prelude.{◌≡◌, ◌⊎◌, ℕ, Option, Some, None, MatchResult, Result, Ok, Err}
+use Rattle.std.specs.Prelude.{◌≡◌, ◌⊎◌, ℕ, Option, Some, None, Result, Ok, Err}
 use Rattle.replica.specs.declared.refusal.Refusal.{Refusal}
 use Rattle.script_texts.specs.Bytes.{Bytes}
-use Rattle.world.specs.Replies.{IsAnswerLine, restarted_line}
-use Rattle.world.specs.working.Stopping.{IsRestartStop, IsStopBy}
+use Rattle.world.specs.Replies.{IsAnswerLine}
+use Rattle.world.specs.working.Stopping.{IsStopBy}
 use Rattle.world.specs.declared.said.Said.{Said}
 use Rattle.world.specs.declared.stop.RunStop.{RunStop}
 use Rattle.world.specs.declared.stop.RunStop.TheVariants as stop
@@ -42,8 +42,3 @@ WordsAndMessage reply line message (Err why) = IsStopped reply why
 abbrev pub AnswerWords : Bytes → ℕ → Result Bytes Refusal → Option Bytes → Result Said RunStop → Type 0
 AnswerWords name number reply message (Ok said) = IsAnswerLine name number reply said.text × (said.message ≡ message)
 AnswerWords name number reply message (Err why) = IsStopped reply why
-
--- The same of a restart, whose refusals all stop the run.
-abbrev pub RestartWords : Bytes → Result ℕ Refusal → Result Bytes RunStop → Type 0
-RestartWords name (Ok held) result = MatchResult result (λ text. restarted_line name (Ok held) ≡ Some text) (λ why. why ≡ stop.NoMemory)
-RestartWords name (Err refused) result = MatchResult result (λ text. ⊥) (λ why. IsRestartStop name refused why)

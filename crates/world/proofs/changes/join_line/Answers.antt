@@ -1,4 +1,4 @@
-use Rattle.std.proofs.Common.{◌≡◌, ℕ, List, Bool, [], ◌∷◌, codes, Some, false, sym, subst, ◌∙◌}
+use Rattle.std.proofs.Common.{◌≡◌, [], ◌∷◌, codes, Some, false, sym, subst, ◌∙◌}
 use Rattle.world.specs.Replies.{refused_line}
 use Rattle.world.specs.Worlds.{Of}
 use Rattle.world.specs.working.Words.{WordsBy}

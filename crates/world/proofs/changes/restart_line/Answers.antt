@@ -6,3 +6,8 @@ returns-clause-line g c = restart_changes (record { tells = g.D.Disk.tells; cont
 
 pub returns-clause-disks : goal.returns-clause-disks
 returns-clause-disks g c = restart_handles (record { tells = g.D.Disk.tells; content = g.D.Disk.content; honest = g.D.Disk.honest }) g.E.Envelope.good g.D.Disk.faults c.args.name.now c.restart-reply.result c.args.replicas.now.items c.restart-reply.new.replicas.items c.requires.up c.restart-reply.ensures.step c.restarted_line.result c.restarted_line.ensures
+
+pub returns-clause-reopens : goal.returns-clause-reopens
+returns-clause-reopens g c =
+    let (before, after, is, restarts, set) = c.restart-reply.ensures.step in
+    (c.restart-reply.result, (before, after, is, (restarts.restarts, restarts.opens), set), c.restarted_line.ensures)

@@ -15,7 +15,7 @@ returns-in-Some-clause-line g c =
 pub returns-in-Some-clause-disks : goal.returns-in-Some-clause-disks
 returns-in-Some-clause-disks g c =
     let same : option_copied c.args.message ≡ Some c.as_slice.result.now = search rules in
-    subst (λ m. Handles (record { tells = g.D.Disk.tells; content = g.D.Disk.content; honest = g.D.Disk.honest }) g.E.Envelope.good g.D.Disk.faults ⊥ NoJournal (FrontOf (RunsTake (record { good = g.E.Envelope.good; told = g.E.Envelope.tag_of }) c.args.name.now m) NoneOf c.args.replicas.now.items) c.args.replicas.now.items c.take_message.result c.take_message.new.replicas.items)
+    subst (λ m. Handles (record { tells = g.D.Disk.tells; content = g.D.Disk.content; honest = g.D.Disk.honest }) g.E.Envelope.good g.D.Disk.faults ⊥ (Some c.args.name.now) NoJournal (FrontOf (RunsTake (record { good = g.E.Envelope.good; told = g.E.Envelope.tag_of }) c.args.name.now m) NoneOf c.args.replicas.now.items) c.args.replicas.now.items c.take_message.result c.take_message.new.replicas.items)
     (sym same) c.take_message.ensures.disks
 
 pub returns-in-None-clause-line : goal.returns-in-None-clause-line

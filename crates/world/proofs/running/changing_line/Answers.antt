@@ -21,4 +21,4 @@ returns-in-Take-clause-fits g c =
     take_arm (record { good = g.E.Envelope.good; told = g.E.Envelope.tag_of }) c.args.messages.now (record { tells = g.D.Disk.tells; content = g.D.Disk.content; honest = g.D.Disk.honest }) g.D.Disk.faults (g.E.Envelope.faults c.args.env.now) (g.E.Envelope.faults c.args.env.now) c.args.replicas.now.items c.take_line.result c.take_line.new.replicas.items c.args.line.now c.in-Take.name c.in-Take.n (option_copied c.message_at.result) c.in-Take.is c.message_at.ensures c.take_line.ensures.line c.take_line.ensures.disks
 
 pub returns-in-Restart-clause-fits : goal.returns-in-Restart-clause-fits
-returns-in-Restart-clause-fits g c = restart_arm (record { good = g.E.Envelope.good; told = g.E.Envelope.tag_of }) c.args.messages.now (record { tells = g.D.Disk.tells; content = g.D.Disk.content; honest = g.D.Disk.honest }) g.D.Disk.faults (g.E.Envelope.faults c.args.env.now) (g.E.Envelope.faults c.args.env.now) c.args.replicas.now.items c.restart_line.result c.restart_line.new.replicas.items c.args.line.now c.in-Restart.name c.in-Restart.is c.restart_line.ensures.line c.restart_line.ensures.disks
+returns-in-Restart-clause-fits g c = restart_arm (record { good = g.E.Envelope.good; told = g.E.Envelope.tag_of }) c.args.messages.now (record { tells = g.D.Disk.tells; content = g.D.Disk.content; honest = g.D.Disk.honest }) g.D.Disk.faults (g.E.Envelope.faults c.args.env.now) (g.E.Envelope.faults c.args.env.now) c.args.replicas.now.items c.restart_line.result c.restart_line.new.replicas.items c.args.line.now c.in-Restart.name c.in-Restart.is c.restart_line.ensures.reopens c.restart_line.ensures.line c.restart_line.ensures.disks

@@ -1,10 +1,8 @@
 use Rattle.std.proofs.Common.{◌≡◌, ◌≤◌, ◌+◌, length, true, vec_capacity, sym, subst}
 use Rattle.outside.specs.Causes.{Rose}
 use Rattle.world.specs.Lines.{may_follow, may_run}
-use Rattle.world.specs.Stops.{Acts, RefusesJournal, SomeOf}
-use Rattle.world.specs.Worlds.{AreUp, Site, declared, site_of}
-use Rattle.world.specs.working.Fitting.{Fits}
-use Rattle.world.specs.working.Passing.{RunsOn}
+use Rattle.world.specs.Stops.{Acts, RefusesJournal, SomeOf, changed_name}
+use Rattle.world.specs.Worlds.{declared, site_of}
 use Rattle.world.specs.working.Running.{FrontOf, RunsIn}
 use Rattle.world.proofs.ArmFacts.{as_many}
 use Rattle.world.proofs.LineFacts.{changed_by}
@@ -14,7 +12,7 @@ pub invariant_of-self : goal.invariant_of-self
 invariant_of-self g c =
     subst (λ n. n + length c.self.inside.spare.items ≤ vec_capacity c.self.inside.spare)
     (sym (as_many (record { good = g.E.Envelope.good; told = g.E.Envelope.tag_of }) c.as_slice.result.now (record { tells = g.D.Disk.tells; content = g.D.Disk.content; honest = g.D.Disk.honest }) g.D.Disk.faults (g.E.Envelope.faults c.args.env.now) (g.E.Envelope.faults c.changing_line.new.env) c.self.inside.replicas.items c.changing_line.result c.changing_line.new.replicas.items
-    (Acts c.args.line.now × Rose (g.E.Envelope.faults c.args.env.now) (g.E.Envelope.faults c.changing_line.new.env)) (RefusesJournal (record { tells = g.D.Disk.tells; content = g.D.Disk.content; honest = g.D.Disk.honest }) g.E.Envelope.good c.self.inside.replicas.items c.args.line.now)
+    (Acts c.args.line.now × Rose (g.E.Envelope.faults c.args.env.now) (g.E.Envelope.faults c.changing_line.new.env)) (changed_name c.args.line.now) (RefusesJournal (record { tells = g.D.Disk.tells; content = g.D.Disk.content; honest = g.D.Disk.honest }) g.E.Envelope.good c.self.inside.replicas.items c.args.line.now)
     (FrontOf (RunsIn (record { good = g.E.Envelope.good; told = g.E.Envelope.tag_of }) c.as_slice.result.now c.args.line.now) (SomeOf (record { good = g.E.Envelope.good; told = g.E.Envelope.tag_of }) c.args.line.now) c.self.inside.replicas.items) c.changing_line.ensures.fits.disks))
     c.self.invariant
 

@@ -1,4 +1,4 @@
-use Rattle.std.proofs.Common.{Err, Ok, refl, ap, sym, subst, ◌++◌, ◌∙◌}
+use Rattle.std.proofs.Common.{Err, refl, ap, sym, subst, ◌++◌, ◌∙◌}
 use Rattle.std.proofs.lemmas.Result.{err_from_is_err_and}
 use Rattle.world.specs.declared.stop.RunStop.TheVariants as stop
 use Rattle.world.specs.working.Passing.{StepsOn}

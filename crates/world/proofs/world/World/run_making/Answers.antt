@@ -1,8 +1,8 @@
-use Rattle.std.proofs.Common.{◌≡◌, ◌<◌, true, Ok, length, refl, ap, sym, subst, ◌∙◌}
+use Rattle.std.proofs.Common.{◌≡◌, ◌<◌, true, Ok, length, ap, sym, subst, ◌∙◌}
 use Rattle.world.specs.Lines.{may_follow, may_run}
 use Rattle.world.specs.Worlds.{declared, site_of}
 use Rattle.world.specs.working.Running.{Making, SaysIn}
-use Rattle.world.proofs.LineFacts.{has_room_for, lacks_on, making_on}
+use Rattle.world.proofs.LineFacts.{has_room_for, lacks_on, making_on, making_quiet}
 use Rattle.world.proofs.world.World.run_making.Goals as goal
 
 pub said_line-said-requires-clause-place : goal.said_line-said-requires-clause-place
@@ -18,11 +18,11 @@ said_line-said-requires-clause-room g c =
 pub returns-in-Ok : goal.returns-in-Ok
 returns-in-Ok g c = record {
   runs = λ tags before now.
-      making_on tags (record { tells = g.D.Disk.tells; content = g.D.Disk.content; honest = g.D.Disk.honest }) g.D.Disk.faults before now c.args.self.now c.args.line.now c.in-Ok.said c.keep.result c.keep.new.self c.requires.up
+      making_on tags (record { tells = g.D.Disk.tells; content = g.D.Disk.content; honest = g.D.Disk.honest }) g.D.Disk.faults before now c.args.self.now c.args.line.now c.in-Ok.said c.keep.result c.keep.new.self c.requires.making c.requires.up
       (subst (λ ms. Making (SaysIn (site_of c.args.self.now.replicas ms) c.args.line.now) (Ok c.in-Ok.said)) (c.as_slice-2.ensures.value ∙ ap (λ s. s.messages) c.self.view_is)
       (subst (λ rs. Making (SaysIn (site_of rs c.as_slice-2.result.now) c.args.line.now) (Ok c.in-Ok.said)) (c.as_slice.ensures.value ∙ ap (λ s. s.replicas) c.self.view_is) c.in-Ok.ensures))
       c.keep.ensures;
 }
 
 pub returns-in-Err : goal.returns-in-Err
-returns-in-Err g c = record { runs = λ tags before now. lacks_on tags (record { tells = g.D.Disk.tells; content = g.D.Disk.content; honest = g.D.Disk.honest }) g.D.Disk.faults before now c.args.self.now c.args.line.now c.in-Err.stop c.requires.up c.in-Err.ensures }
+returns-in-Err g c = record { runs = λ tags before now. lacks_on tags (record { tells = g.D.Disk.tells; content = g.D.Disk.content; honest = g.D.Disk.honest }) g.D.Disk.faults before now c.args.self.now c.args.line.now c.in-Err.stop (making_quiet c.args.line.now c.requires.making) c.requires.up c.in-Err.ensures }

@@ -1,4 +1,4 @@
-use Rattle.std.proofs.Common.{ap, sym, subst, ◌∙◌}
+use Rattle.std.proofs.Common.{ap, subst, ◌∙◌}
 use Rattle.world.specs.working.Running.{Showing, ShowsIn}
 use Rattle.world.proofs.LineFacts.{shown_on}
 use Rattle.world.proofs.world.World.run_showing.Goals as goal

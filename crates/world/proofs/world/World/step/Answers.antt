@@ -1,5 +1,5 @@
 use Rattle.world.specs.Stops.{IsFront}
-use Rattle.world.proofs.LineFacts.{step_cause, step_disks, step_honest, step_journals, step_seals}
+use Rattle.world.proofs.LineFacts.{step_cause, step_disks, step_honest, step_journals, step_own, step_seals}
 use Rattle.world.proofs.PlaceFacts.{names_stay}
 use Rattle.world.proofs.world.World.step.Goals as goal
 
@@ -21,6 +21,9 @@ returns-clause-honest g c = step_honest (record { tells = g.D.Disk.tells; conten
 pub returns-clause-cause : goal.returns-clause-cause
 returns-clause-cause g c = step_cause (record { tells = g.D.Disk.tells; content = g.D.Disk.content; honest = g.D.Disk.honest }) g.E.Envelope.good g.D.Disk.faults (g.E.Envelope.faults c.args.env.now) (g.E.Envelope.faults c.run_into.new.env) c.args.self.now c.run_into.new.self c.args.line.now c.run_into.ensures.steps.passes.spare (IsFront (record { good = g.E.Envelope.good; told = g.E.Envelope.tag_of }) c.args.self.now c.args.line.now) c.run_into.result c.run_into.ensures.steps.passes.disks
 
+pub returns-clause-own : goal.returns-clause-own
+returns-clause-own g c = step_own (record { tells = g.D.Disk.tells; content = g.D.Disk.content; honest = g.D.Disk.honest }) g.E.Envelope.good g.D.Disk.faults (g.E.Envelope.faults c.args.env.now) (g.E.Envelope.faults c.run_into.new.env) c.args.self.now c.run_into.new.self c.args.line.now c.run_into.ensures.steps.passes.spare (IsFront (record { good = g.E.Envelope.good; told = g.E.Envelope.tag_of }) c.args.self.now c.args.line.now) c.run_into.result c.run_into.ensures.steps.passes.disks
+
 pub returns-clause-seals : goal.returns-clause-seals
 returns-clause-seals g c = step_seals (record { tells = g.D.Disk.tells; content = g.D.Disk.content; honest = g.D.Disk.honest }) g.E.Envelope.good g.D.Disk.faults (g.E.Envelope.faults c.args.env.now) (g.E.Envelope.faults c.run_into.new.env) c.args.self.now c.run_into.new.self c.args.line.now c.run_into.ensures.steps.passes.spare (IsFront (record { good = g.E.Envelope.good; told = g.E.Envelope.tag_of }) c.args.self.now c.args.line.now) c.run_into.result c.run_into.ensures.steps.passes.disks
 
@@ -35,3 +38,6 @@ returns-clause-messages g c = c.run_into.ensures.steps.passes.counted
 
 pub returns-clause-spare : goal.returns-clause-spare
 returns-clause-spare g c = c.run_into.ensures.steps.passes.spare
+
+pub returns-clause-restart : goal.returns-clause-restart
+returns-clause-restart g c = c.run_into.ensures.steps.reopens
