@@ -1,5 +1,5 @@
 -- Counts of faults that rose, along a run of several parts.
-use Rattle.std.proofs.Common.{◌≡◌, ◌⊎◌, ℕ, ◌≤◌, Bool, List, [], ◌∷◌, length, Result, refl, sym, subst, ◌∙◌, inl, inr, ⊎_elim, arith}
+use Rattle.std.proofs.Common.{◌≡◌, ℕ, ◌≤◌, Bool, List, [], ◌∷◌, length, Result, refl, sym, subst, ◌∙◌, inl, inr, ⊎_elim, arith}
 use Rattle.outside.specs.Causes.{Rose}
 use Rattle.world.specs.Stops.{AreAsHonest, HasCause, NoneFell, SomeRose}
 use Rattle.world.specs.declared.stop.RunStop.{RunStop}

@@ -22,7 +22,6 @@ use script_texts::usage_text;
 use std::alloc::Global;
 
 /// Runs a mode.
-#[tactic(auto, using(crate::proofs::Rises::later_at_once))]
 fn run_mode<F: Files, D: Disk, E: Envelope, K: Sink>(
     alloc: Global,
     mode: Mode,
@@ -52,7 +51,6 @@ fn run_mode<F: Files, D: Disk, E: Envelope, K: Sink>(
 }
 
 /// Does what the words ask for.
-#[tactic(auto, using(crate::proofs::Rises::later_at_once))]
 fn run_words<F: Files, D: Disk, E: Envelope, K: Sink>(
     alloc: Global,
     words: &[Text],

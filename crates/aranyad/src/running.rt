@@ -113,7 +113,6 @@ fn run_opened<R: Runner, G: Graph, F: FactBase, D: Disk, E: Envelope, K: Sink, L
 }
 
 /// Runs a script's lines in the world of the replicas that they declare, each opened on the disk at its place. The disks are handed back.
-#[tactic(auto, using(crate::proofs::Rises::later_at_once))]
 pub fn run_world<D: Disk, E: Envelope, K: Sink, L: Ledger>(
     alloc: Global,
     digest: &Id,

@@ -23,7 +23,6 @@ use std::marker::Brand;
 use std::sync::ledger::Blank;
 
 /// Runs what the script's file was taken for, under a policy whose document has this digest.
-#[tactic(auto, using(crate::proofs::Rises::later_at_once))]
 fn run_script<D: Disk, E: Envelope, K: Sink>(
     alloc: Global,
     digest: &Id,
@@ -58,7 +57,6 @@ fn run_script<D: Disk, E: Envelope, K: Sink>(
 }
 
 /// Reads the script's file and runs it, under a policy whose document has this digest.
-#[tactic(auto, using(crate::proofs::Rises::later_at_once))]
 fn run_whole<F: Files, D: Disk, E: Envelope, K: Sink>(
     alloc: Global,
     digest: &Id,
@@ -85,7 +83,6 @@ fn run_whole<F: Files, D: Disk, E: Envelope, K: Sink>(
 }
 
 /// Runs what the policy's file was taken for, and then the script's file.
-#[tactic(auto, using(crate::proofs::Rises::later_at_once))]
 fn run_loaded<F: Files, D: Disk, E: Envelope, K: Sink>(
     alloc: Global,
     policy: Loaded,
@@ -114,7 +111,6 @@ fn run_loaded<F: Files, D: Disk, E: Envelope, K: Sink>(
 }
 
 /// Runs the policy's file, and then the script's.
-#[tactic(auto, using(crate::proofs::Rises::later_at_once))]
 pub fn run_files<F: Files, D: Disk, E: Envelope, K: Sink>(
     alloc: Global,
     policy: Text,

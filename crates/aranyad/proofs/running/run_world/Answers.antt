@@ -3,7 +3,7 @@ use Rattle.replica.specs.Disks.{Sense}
 use Rattle.world.specs.Lines.{Tags}
 use Rattle.aranyad.specs.Ending.{AreLater}
 use Rattle.aranyad.proofs.Goings.{lacks_at_once, same_run}
-use Rattle.aranyad.proofs.Rises.{as_many}
+use Rattle.aranyad.proofs.Rises.{as_many, later_at_once}
 use Rattle.aranyad.proofs.running.run_world.Goals as goal
 
 pub returns-in-Err-clause-goes : goal.returns-in-Err-clause-goes
@@ -34,4 +34,10 @@ returns-clause-disks g c =
 pub returns-clause-later : goal.returns-clause-later
 returns-clause-later g c =
     let same : c.replace-own.result.items ≡ c.args.disks.now.items = rw c.replace-own.ensures.value refl in
-    subst (λ ds. AreLater g.D.Disk.faults g.D.Disk.honest ds _) same c.run_opened-result.ensures.disks
+    subst (λ ds. AreLater g.D.Disk.faults g.D.Disk.honest ds c.run_opened-result.result.1.items) same c.run_opened-result.ensures.disks
+
+pub returns-in-Err-clause-later : goal.returns-in-Err-clause-later
+returns-in-Err-clause-later g c = later_at_once g.D.Disk.faults g.D.Disk.honest c.args.disks.now.items
+
+pub returns-in-Err-shares-clause-later : goal.returns-in-Err-shares-clause-later
+returns-in-Err-shares-clause-later g c = later_at_once g.D.Disk.faults g.D.Disk.honest c.args.disks.now.items

@@ -4,6 +4,7 @@ use Rattle.world.specs.Lines.{Tags}
 use Rattle.aranyad.specs.Loading.{IsLoaded, limited, policy_limit, script_limit}
 use Rattle.aranyad.specs.Runs.{RunsPolicy}
 use Rattle.aranyad.proofs.Goings.{read_goes, told_all, unread_goes}
+use Rattle.aranyad.proofs.Rises.{later_at_once}
 use Rattle.aranyad.proofs.stages.run_files.Goals as goal
 
 pub returns-in-Ok-clause-goes : goal.returns-in-Ok-clause-goes
@@ -15,3 +16,6 @@ returns-in-Ok-clause-goes g c = λ told honest.
 
 pub returns-in-Err-clause-goes : goal.returns-in-Err-clause-goes
 returns-in-Err-clause-goes g c = λ told honest. told_all (g.F.Files.holds c.args.files.now) _ (λ at. unread_goes _ _ _ _ _ _ _ c.in-Err.halt _ c.in-Err.ensures.cause refl)
+
+pub returns-in-Err-clause-later : goal.returns-in-Err-clause-later
+returns-in-Err-clause-later g c = later_at_once g.D.Disk.faults g.D.Disk.honest c.args.disks.now.items
