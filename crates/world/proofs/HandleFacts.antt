@@ -1,10 +1,9 @@
 -- What a call makes of its disk is what its line makes of all.
-use Rattle.std.proofs.Common.{◌≡◌, ◌⊎◌, inl, inr, ⊎_elim, ℕ, Bool, List, ◌++◌, length, map, Option, None, Some, Result, Ok, Err, IfErr, OnOk, refl, sym, ap, subst, ◌∙◌, arith, append_assoc, length-append}
+use Rattle.std.proofs.Common.{◌≡◌, ◌⊎◌, inl, inr, ⊎_elim, ℕ, Bool, List, ◌++◌, length, map, Option, None, Some, IsSome, Result, Ok, Err, IfErr, OnOk, refl, sym, ap, subst, ◌∙◌, arith, append_assoc, length-append}
 use Rattle.std.proofs.lemmas.Option.{same_Some}
 use Rattle.braid_run.specs.States.{Held}
 use Rattle.journal.specs.declared.commit.Commit.{Commit}
 use Rattle.journal.specs.declared.fault.OpenFault.{OpenFault}
-use Rattle.outside.specs.Causes.{Rose}
 use Rattle.outside.specs.Crashes.{LeavesOnly, clock, moments}
 use Rattle.outside.specs.Disk.{Content}
 use Rattle.outside.proofs.Crashes.{no_calls, told_before}
@@ -12,12 +11,13 @@ use Rattle.replica.specs.Disks.{MayOpenTo, OpensToOf, Sense}
 use Rattle.replica.specs.Fronts.{Front, OpensAs, Opens, behind_commit, front_of}
 use Rattle.replica.specs.Kept.{Kept, criteria_of, loose_of}
 use Rattle.replica.specs.Steps.{IsStep}
+use Rattle.replica.specs.declared.down.Down.{Down}
 use Rattle.replica.specs.declared.refusal.Refusal.{Refusal}
 use Rattle.replica.specs.declared.refusal.Refusal.TheVariants as refusal
 use Rattle.script_texts.specs.Bytes.{Bytes}
 use Rattle.transaction.specs.declared.fault.ActFault.TheVariants as fault
 use Rattle.world.specs.Crashes.{AreSafe, OpenAtEachMoment, OpensIn}
-use Rattle.world.specs.Stops.{SomeRose}
+use Rattle.world.specs.Stops.{Falls, SomeRose}
 use Rattle.world.specs.Worlds.{AreUp, Changes, Named, kept_of, with_kept}
 use Rattle.world.specs.declared.stop.RunStop.{RunStop}
 use Rattle.world.specs.declared.stop.RunStop.TheVariants as stop
@@ -47,6 +47,9 @@ leaves_more old new P Q to leaves = record { later = leaves.later; each = λ ima
 
 none_loose : (commit : Commit) → ◌≡◌ {A = Option Commit} None (Some commit) → ⊥
 none_loose commit is = absurd cc
+
+none_down : (down : Down) → ◌≡◌ {A = Option Down} None (Some down) → ⊥
+none_down down is = absurd cc
 
 module _ {D : Type 0} where
   -- a replica that is up may open to what it holds alone
@@ -79,6 +82,15 @@ module _ {D : Type 0} where
     step_up (Err why) new up (inl (was, because, same)) = inl (ap (λ (k : Kept D). k.down) same ∙ up)
     step_up (Err why) new up (inr (inl (was, (step, is, fails)))) = inr (step, ap Err is)
     step_up (Err why) new up (inr (inr (says, same))) = inl (ap (λ (k : Kept D). k.down) same ∙ up)
+
+    -- where its disk failed it is down
+    pub step_down : (sealed : Type 0) (reply : Result T Refusal) (new : Kept D) → old.down ≡ None → ((why : Refusal) → reply ≡ Err why → refuses why → IsCausedBy sealed ⊥ why) → IsStep old gives refuses reply new
+        → IsDiskFault reply → IsSome new.down
+    step_down sealed (Ok r) new up refused step (at, told) = absurd cc
+    step_down sealed (Err why) new up refused (inl (was, inl none, same)) (at, told) = let e : why ≡ refusal.DiskFault at = cc in let f : refusal.NoMemory ≡ refusal.DiskFault at = sym none ∙ e in absurd cc
+    step_down sealed (Err why) new up refused (inl (was, inr because, same)) (at, told) = let e : why ≡ refusal.DiskFault at = cc in absurd (subst (IsCausedBy sealed ⊥) e (refused why refl because))
+    step_down sealed (Err why) new up refused (inr (inl (was, (step, is, fails)))) (at, told) = subst (λ (k : Kept D). IsSome k.down) (sym fails.same) refl
+    step_down sealed (Err why) new up refused (inr (inr (says, same))) (at, told) = absurd (none_down says.0 (sym up ∙ says.1))
 
     pub step_caused : (sealed failed : Type 0) (reply : Result T Refusal) (new : Kept D) → old.down ≡ None → (IsDiskFault reply → failed) → ((why : Refusal) → reply ≡ Err why → refuses why → IsCausedBy sealed failed why)
         → IsStep old gives refuses reply new → IfErr reply (IsCausedBy sealed failed)
@@ -192,7 +204,7 @@ module _ {D : Type 0} (sense : Sense D) (good : List ℕ → List ℕ → List �
           is = is;
           set = set;
           up = step_up before (gives before) (refuses before) reply after own step;
-          cause = step_caused before (gives before) (refuses before) sealed (Rose (faults before.disk) (faults after.disk)) reply after own treats.cause (caused before (Rose (faults before.disk) (faults after.disk))) step;
+          cause = step_caused before (gives before) (refuses before) sealed (Falls faults before after) reply after own (λ fell. (treats.cause fell, step_down before (gives before) (refuses before) sealed reply after own (λ why told because. caused before ⊥ why told because) step fell)) (caused before (Falls faults before after)) step;
           fares = fares_step (gives before) (refuses before) old name before after reply is own there (λ r held given. all before r held is own given) step treats;
         }
 
@@ -233,10 +245,10 @@ stopped_for sealed failed refused (Err why) s caused (inr is) = stop_for sealed 
 -- ---- a line
 
 pub fell_at : {D : Type 0} (faults : D → ℕ) (old : List (Named D)) (name : Bytes) (before after : Kept D) (new : List (Named D)) → kept_of old name ≡ Some before → new ≡ with_kept old name after
-    → Rose (faults before.disk) (faults after.disk) → Fell faults (Some name) old new
-fell_at {D = D} faults old name before after new is set rose = (
-  subst (λ (l : List (Named D)). SomeRose faults (map (λ r. r.kept.disk) old) (map (λ r. r.kept.disk) l)) (sym set) (rose_at faults old name before after is rose),
-  (name, before, after, refl, is, ap (λ (l : List (Named D)). kept_of l name) set ∙ kept_then old name before after is, rose),
+    → Falls faults before after → Fell faults (Some name) old new
+fell_at {D = D} faults old name before after new is set falls = (
+  subst (λ (l : List (Named D)). SomeRose faults (map (λ r. r.kept.disk) old) (map (λ r. r.kept.disk) l)) (sym set) (rose_at faults old name before after is falls.0),
+  (name, before, after, refl, is, ap (λ (l : List (Named D)). kept_of l name) set ∙ kept_then old name before after is, falls),
 )
 
 module _ {D : Type 0} (sense : Sense D) (good : List ℕ → List ℕ → List ℕ → Bool) (reached : List (Named D) → Type 0) where
@@ -307,9 +319,9 @@ module _ {D : Type 0} (sense : Sense D) (good : List ℕ → List ℕ → List �
           → IfErr result (IsStopFor sealed (Fell faults (Some name) old new) refused)
       caused_then refused line (Ok text) words = tt
       caused_then refused line (Err s) words =
-          stop_more sealed (Rose (faults w.before.disk) (faults w.after.disk)) (Fell faults (Some name) old new) refused s
+          stop_more sealed (Falls faults w.before w.after) (Fell faults (Some name) old new) refused s
           (λ rose. fell_at faults old name w.before w.after new w.is w.set rose)
-          (stopped_for sealed (Rose (faults w.before.disk) (faults w.after.disk)) refused reply s w.cause words)
+          (stopped_for sealed (Falls faults w.before w.after) refused reply s w.cause words)
 
       pub handles : (refused : List ℕ → OpenFault → Type 0) (line : Option Bytes) (result : Result Bytes RunStop) → (IsDiskFault reply → line ≡ None) → WordsBy (refusal_of reply) line result
           → Handles sense good faults sealed (Some name) refused reached old result new

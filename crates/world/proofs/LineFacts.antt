@@ -11,7 +11,7 @@ use Rattle.script.specs.declared.line.Line.{Line}
 use Rattle.script.specs.declared.line.Line.TheVariants as line
 use Rattle.script_texts.specs.Bytes.{Bytes}
 use Rattle.world.specs.Lines.{KeepsRest, Runs, Tags, may_run}
-use Rattle.world.specs.Stops.{Acts, AreAsHonest, HasCause, IsFront, IsSteady, LeavesFront, NoneFell, OwnRose, RefusesJournal, Reopens, RestartWords, RunsOrStops, SomeOf, SomeRose, changed_name}
+use Rattle.world.specs.Stops.{Acts, AreAsHonest, HasCause, IsFront, IsSteady, LeavesFront, NoneFell, OwnFalls, RefusesJournal, Reopens, RestartWords, RunsOrStops, SomeOf, SomeRose, changed_name}
 use Rattle.world.specs.Worlds.{AreUp, Named, Site, declared, disks_of, site_of, with_message}
 use Rattle.world.specs.declared.said.Said.{Said}
 use Rattle.world.specs.declared.stop.RunStop.{RunStop}
@@ -337,7 +337,7 @@ module _ {D : Type 0} (sense : Sense D) (good : List ℕ → List ℕ → List �
     step_cause (Ok r) h = tt
     step_cause (Err s) h = cause_of s h.cause
 
-    pub step_own : (result : Result T RunStop) → Handled result → result ≡ Err stop.DiskFault → OwnRose faults (changed_name one) old.replicas new.replicas
+    pub step_own : (result : Result T RunStop) → Handled result → result ≡ Err stop.DiskFault → OwnFalls faults (changed_name one) old.replicas new.replicas
     step_own result h is = (subst (λ r. IfErr r (IsStopFor (Acts one × Rose before now) Disks (RefusesJournal sense good old.replicas one))) is h.cause).1
 
     pub step_seals : (result : Result T RunStop) → Handled result → IfErr result (λ s. s ≡ stop.SealFault → Acts one)

@@ -1,5 +1,5 @@
 -- A restart: what is held stays where the disk is trusted.
-use Rattle.std.proofs.Common.{◌≡◌, ◌⊎◌, inl, inr, ℕ, Bool, List, length, Option, None, Some, Result, Ok, Err, IfErr, OnOk, refl, sym, ap, subst, ◌∙◌}
+use Rattle.std.proofs.Common.{◌≡◌, ◌⊎◌, inl, inr, ℕ, Bool, List, length, Option, None, Some, Result, Ok, Err, IfErr, OnOk, refl, sym, ap, subst, ◌∙◌, IsSome}
 use Rattle.std.proofs.lemmas.Option.{same_Some}
 use Rattle.journal.specs.declared.commit.Commit.{Commit}
 use Rattle.journal.specs.declared.fault.OpenFault.{OpenFault}
@@ -145,7 +145,7 @@ module _ {D : Type 0} (sense : Sense D) (good : List ℕ → List ℕ → List �
           → Weathers sense good faults {T = ℕ} ⊥ reached old name (Err refusal.NoMemory) new ⊎ ((step : DiskStep) × Weathers sense good faults {T = ℕ} ⊥ reached old name (Err (refusal.DiskFault step)) new)
       by (Ok count) (held, counted, run, is) rose = inl (plain (ap (λ (k : Kept D). k.down) is.same))
       by (Err why) (inl (because, same)) rose = inl (plain (ap (λ (k : Kept D). k.down) same ∙ own))
-      by (Err why) (inr (step, is, same)) rose = inr (step, record { before = before; after = after; is = changes.2; set = set; up = inr (step, refl); cause = rose (step, ap Err is); fares = fares })
+      by (Err why) (inr (step, is, same)) rose = inr (step, record { before = before; after = after; is = changes.2; set = set; up = inr (step, refl); cause = (rose (step, ap Err is), subst (λ (k : Kept D). IsSome k.down) (sym same) refl); fares = fares })
 
   -- disks and crashes, whatever is printed
   without_words : Handles sense good faults {T = Bytes} ⊥ (Some name) NoJournal reached old (Err stop.NoMemory) new
@@ -182,7 +182,7 @@ module _ {D : Type 0} (sense : Sense D) (good : List ℕ → List ℕ → List �
       by (inr named) = subst causes (sym named) (refuses_journal cause refused (told ∙ ap Err is))
   restart_caused why s told (inr (step, is, same)) stops =
       subst causes (sym (subst (λ w. IsRestartStop name w s) is stops))
-      (fell_at faults old name before after new changes.2 set (restarts.treats.cause (step, told ∙ ap Err is)))
+      (fell_at faults old name before after new changes.2 set (restarts.treats.cause (step, told ∙ ap Err is), subst (λ (k : Kept D). IsSome k.down) (sym same) refl))
 
   cause_by : (r : Result ℕ Refusal) (result : Result Bytes RunStop) → reply ≡ r → Restarts before r after → RestartWords name r result → IfErr result causes
   cause_by r (Ok text) told runs words = tt

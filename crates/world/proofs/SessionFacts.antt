@@ -24,7 +24,7 @@ use Rattle.world.specs.Reasons.{line_refusal}
 use Rattle.world.specs.Sessions.{Goes, IsHalfRound, IsRound, Session, Sum, no_sum, synced_line, synced_lines, with_taken}
 use Rattle.world.specs.Sessions.Goes.{begins, more}
 use Rattle.world.specs.Sessions.Session.{done, no_answer, no_next, no_request, no_take}
-use Rattle.world.specs.Stops.{Came}
+use Rattle.world.specs.Stops.{Came, Falls}
 use Rattle.world.specs.Worlds.{AreAlike, AreUp, Changes, Named, Of, kept_of, with_kept}
 use Rattle.world.specs.declared.stop.RunStop.{RunStop}
 use Rattle.world.specs.working.Handling.{Fares, Handles, IsDiskFault, Treats, Weathers}
@@ -34,7 +34,7 @@ use Rattle.world.specs.working.Running.{Changing, FrontOf}
 use Rattle.world.specs.working.Stopping.{IsCausedBy, NoJournal}
 use Rattle.world.specs.working.Words.{Words}
 use Rattle.world.proofs.CauseFacts.{answers_mild, asks_mild, mild_caused, next_mild, read_mild}
-use Rattle.world.proofs.HandleFacts.{fares_on, fares_step, fares_still, handles, step_alike, step_caused, step_judged, step_up}
+use Rattle.world.proofs.HandleFacts.{fares_on, fares_step, fares_still, handles, step_alike, step_caused, step_down, step_judged, step_up}
 use Rattle.world.proofs.PlaceFacts.{alike_at, alike_same, kept_then, named_then, set_twice, stay_up, unchanged, up_of}
 use Rattle.world.proofs.RoundFacts.{AsksBehind, IsFurther, IsSmall, Meets, asks_first, few_met, further, met_commands, read_form, small, taken_meets}
 
@@ -117,17 +117,17 @@ module _ {D : Type 0} (sense : Sense D) (faults : D → ℕ) (tags : Tags) (a b 
     pub here : new ≡ with_kept old a after
     pub judged : criteria_of tags.good after ≡ criteria_of tags.good before
     pub up : (after.down ≡ None) ⊎ IsDiskFault reply
-    pub cause : IfErr reply (IsCausedBy ⊥ (Rose (faults before.disk) (faults after.disk)))
+    pub cause : IfErr reply (IsCausedBy ⊥ (Falls faults before after))
     pub fares : Fares sense tags.good faults (ReachedBy first) first a before after
 
   module _ (first old : List (Named D)) (request : Bytes) (sum : Sum) (come : HasCome first old request sum) where
     at_now : kept_of old a ≡ Some come.now
     at_now = ap (λ l. kept_of l a) come.set ∙ kept_then first a come.before come.now come.is
 
-    further_cause : (after : Kept D) (reply : Result Taken Refusal) → faults come.before.disk ≤ faults come.now.disk → IfErr reply (IsCausedBy ⊥ (Rose (faults come.now.disk) (faults after.disk)))
-        → IfErr reply (IsCausedBy ⊥ (Rose (faults come.before.disk) (faults after.disk)))
+    further_cause : (after : Kept D) (reply : Result Taken Refusal) → faults come.before.disk ≤ faults come.now.disk → IfErr reply (IsCausedBy ⊥ (Falls faults come.now after))
+        → IfErr reply (IsCausedBy ⊥ (Falls faults come.before after))
     further_cause after (Ok r) later is = tt
-    further_cause after (Err (refusal.DiskFault step)) later is = rose_on (faults come.before.disk) (faults come.now.disk) (faults after.disk) later is
+    further_cause after (Err (refusal.DiskFault step)) later is = (rose_on (faults come.before.disk) (faults come.now.disk) (faults after.disk) later is.0, is.1)
     further_cause after (Err refusal.NoGraph) later is = tt
     further_cause after (Err refusal.HasGraph) later is = tt
     further_cause after (Err refusal.Malformed) later is = tt
@@ -135,7 +135,7 @@ module _ {D : Type 0} (sense : Sense D) (faults : D → ℕ) (tags : Tags) (a b 
     further_cause after (Err (refusal.Act fault.SealFault)) later is = is
     further_cause after (Err (refusal.Act other)) later is = no_seal other is
       where
-        no_seal : (f : ActFault) → IsCausedBy ⊥ (Rose (faults come.now.disk) (faults after.disk)) (refusal.Act f) → IsCausedBy ⊥ (Rose (faults come.before.disk) (faults after.disk)) (refusal.Act f)
+        no_seal : (f : ActFault) → IsCausedBy ⊥ (Falls faults come.now after) (refusal.Act f) → IsCausedBy ⊥ (Falls faults come.before after) (refusal.Act f)
         no_seal fault.SealFault x = x
         no_seal fault.NoMemory x = tt
         no_seal fault.NoGraph x = tt
@@ -159,8 +159,13 @@ module _ {D : Type 0} (sense : Sense D) (faults : D → ℕ) (tags : Tags) (a b 
       judged = step_judged come.now (IsTakeOf come.now tags.good t.response) (λ why. IsResponseRead t.response come.now.held.graph_id (Err why)) tags.good reply after step ∙ come.judged;
       up = step_up come.now (IsTakeOf come.now tags.good t.response) (λ why. IsResponseRead t.response come.now.held.graph_id (Err why)) reply after come.up step;
       cause = further_cause after reply come.fares.later
-          (step_caused come.now (IsTakeOf come.now tags.good t.response) (λ why. IsResponseRead t.response come.now.held.graph_id (Err why)) ⊥ (Rose (faults come.now.disk) (faults after.disk)) reply after come.up treats.cause
-          (λ why is read. mild_caused ⊥ (Rose (faults come.now.disk) (faults after.disk)) why (read_mild _ _ t.response come.now.held.graph_id why read)) step);
+          (step_caused come.now (IsTakeOf come.now tags.good t.response) (λ why. IsResponseRead t.response come.now.held.graph_id (Err why)) ⊥ (Falls faults come.now after) reply after come.up
+          (λ fell. (
+            treats.cause fell,
+            step_down come.now (IsTakeOf come.now tags.good t.response) (λ why. IsResponseRead t.response come.now.held.graph_id (Err why)) ⊥ reply after come.up
+                (λ why is read. mild_caused ⊥ ⊥ why (read_mild _ _ t.response come.now.held.graph_id why read)) step fell,
+          ))
+          (λ why is read. mild_caused ⊥ (Falls faults come.now after) why (read_mild _ _ t.response come.now.held.graph_id why read)) step);
       fares = fares_on sense tags.good faults (ReachedBy first) first old a come.before come.now after come.set come.judged come.fares
           (fares_step sense tags.good faults (ReachedBy first) (IsTakeOf come.now tags.good t.response) (λ why. IsResponseRead t.response come.now.held.graph_id (Err why)) old a come.now after reply at_now come.up
           (inr (inr (inl (request, sum, come.goes)))) (λ r held given. inr (inr (inr (old, request, sum, r, come.goes, half r held given)))) step treats);
@@ -269,25 +274,25 @@ module _ {D : Type 0} (sense : Sense D) (faults : D → ℕ) (tags : Tags) (a b 
     -- ---- the end of a session
 
     taken_weathers : {T : Type 0} (new : List (Named D)) (taken : Taken) (reply : Result T Refusal) → TakesAnswer sense tags.good faults a b old request (Ok taken) new
-        → ((after : Kept D) → new ≡ with_kept old a after → after.down ≡ None → IfErr reply (IsCausedBy ⊥ (Rose (faults come.before.disk) (faults after.disk))))
+        → ((after : Kept D) → new ≡ with_kept old a after → after.down ≡ None → IfErr reply (IsCausedBy ⊥ (Falls faults come.before after)))
         → Weathers sense tags.good faults ⊥ (ReachedBy first) first a reply new
     taken_weathers new taken reply takes caused =
         let t = has_taken new (Ok taken) takes in
         record { before = come.before; after = t.after; is = come.is; set = t.set; up = inl (up_behind new taken t); cause = caused t.after t.here (up_behind new taken t); fares = t.fares }
 
     next_caused : (new : List (Named D)) (taken : Taken) (why : Refusal) → TakesAndAsks sense tags.good faults a b old request taken (Err why) new → (after : Kept D) → new ≡ with_kept old a after → after.down ≡ None
-        → IsCausedBy ⊥ (Rose (faults come.before.disk) (faults after.disk)) why
+        → IsCausedBy ⊥ (Falls faults come.before after) why
     next_caused new taken why both after set up = by both.asks
       where
-        by : Of new a (λ kept. AsksNext kept both.takes.response (Err why)) → IsCausedBy ⊥ (Rose (faults come.before.disk) (faults after.disk)) why
+        by : Of new a (λ kept. AsksNext kept both.takes.response (Err why)) → IsCausedBy ⊥ (Falls faults come.before after) why
         by (kept, is, asks) =
             let same : kept ≡ after = same_Some kept after (sym is ∙ ap (λ l. kept_of l a) set ∙ kept_then old a come.now after at_now) in
-            mild_caused ⊥ (Rose (faults come.before.disk) (faults after.disk)) why (next_mild kept (ap (λ (k : Kept D). k.down) same ∙ up) both.takes.response (Err why) asks)
+            mild_caused ⊥ (Falls faults come.before after) why (next_mild kept (ap (λ (k : Kept D). k.down) same ∙ up) both.takes.response (Err why) asks)
 
     answer_caused : (failed : Type 0) (why : Refusal) → AreUp old → Of old b (λ kept. Answers kept request (Err why)) → IsCausedBy ⊥ failed why
     answer_caused failed why up (kept, is, answers) = mild_caused ⊥ failed why (answers_mild kept (up_of old b kept up is) request (Err why) answers)
 
-    still_weathers : {T : Type 0} (new : List (Named D)) (reply : Result T Refusal) → new ≡ old → IfErr reply (IsCausedBy ⊥ (Rose (faults come.before.disk) (faults come.now.disk))) → Weathers sense tags.good faults ⊥ (ReachedBy first) first a reply new
+    still_weathers : {T : Type 0} (new : List (Named D)) (reply : Result T Refusal) → new ≡ old → IfErr reply (IsCausedBy ⊥ (Falls faults come.before come.now)) → Weathers sense tags.good faults ⊥ (ReachedBy first) first a reply new
     still_weathers new reply same cause =
         record { before = come.before; after = come.now; is = come.is; set = same ∙ come.set; up = inl come.up; cause = cause; fares = come.fares }
 
@@ -342,7 +347,7 @@ module _ {D : Type 0} (sense : Sense D) (faults : D → ℕ) (tags : Tags) (a b 
     refused_weathers bytes new why up same went = by (refused_as bytes new why same went)
       where
         by : GoesRound sense tags.good faults a b old request (Err why) new → Weathers sense tags.good faults {T = Sum} ⊥ (ReachedBy first) first a (Err why) new
-        by (inl (stays, refused)) = still_weathers new (Err why) stays (answer_caused (Rose (faults come.before.disk) (faults come.now.disk)) why (subst AreUp (sym come.set) (stay_up first a come.now up come.up)) refused)
+        by (inl (stays, refused)) = still_weathers new (Err why) stays (answer_caused (Falls faults come.before come.now) why (subst AreUp (sym come.set) (stay_up first a come.now up come.up)) refused)
         by (inr (inl takes)) = untaken_weathers new why takes
         by (inr (inr (taken, both))) = taken_weathers new taken (Err why) both.takes (λ after set own. next_caused new taken why both after set own)
 
@@ -382,7 +387,7 @@ module _ {D : Type 0} (sense : Sense D) (faults : D → ℕ) (tags : Tags) (a b 
             is = is;
             set = sym (unchanged first a kept is);
             up = inl own;
-            cause = mild_caused ⊥ (Rose (faults kept.disk) (faults kept.disk)) why (asks_mild kept own (Err why) asks);
+            cause = mild_caused ⊥ (Falls faults kept kept) why (asks_mild kept own (Err why) asks);
             fares = fares_still sense tags.good faults (ReachedBy first) first a kept is own (inl refl);
           }
 

@@ -1,5 +1,5 @@
 -- What stops a run, and what a stop leaves.
-use Rattle.std.specs.Prelude.{◌≡◌, ◌⊎◌, ℕ, ◌≤◌, Bool, IsTrue, List, [], ◌∷◌, ◌++◌, Option, Some, None, MatchResult, Result, Ok, Err}
+use Rattle.std.specs.Prelude.{◌≡◌, ◌⊎◌, ℕ, ◌≤◌, Bool, IsTrue, List, [], ◌∷◌, ◌++◌, Option, Some, None, IsSome, MatchResult, Result, Ok, Err}
 use Rattle.journal.specs.declared.fault.OpenFault.{OpenFault}
 use Rattle.outside.specs.Causes.{Rose}
 use Rattle.replica.specs.Calls.{IsRefusedJournal, Restarts, restart_opens}
@@ -56,10 +56,14 @@ changed_name (line.Take a n) = Some a
 changed_name (line.Restart a) = Some a
 changed_name other = None
 
--- The count of the disk of this replica rose.
-abbrev pub OwnRose : {D : Type 0} → (D → ℕ) → Option Bytes → List (Named D) → List (Named D) → Type 0
-OwnRose {D = D} faults own old new =
-    (a : Bytes) × (before after : Kept D) × (own ≡ Some a) × (kept_of old a ≡ Some before) × (kept_of new a ≡ Some after) × Rose (faults before.disk) (faults after.disk)
+-- The disk of a replica failed: its count rose, and the replica is down.
+abbrev pub Falls : {D : Type 0} → (D → ℕ) → Kept D → Kept D → Type 0
+Falls faults before after = Rose (faults before.disk) (faults after.disk) × IsSome after.down
+
+-- It is so of this replica.
+abbrev pub OwnFalls : {D : Type 0} → (D → ℕ) → Option Bytes → List (Named D) → List (Named D) → Type 0
+OwnFalls {D = D} faults own old new =
+    (a : Bytes) × (before after : Kept D) × (own ≡ Some a) × (kept_of old a ≡ Some before) × (kept_of new a ≡ Some after) × Falls faults before after
 
 -- A restart gives back what was held where the disk is trusted. No other line asks for that.
 abbrev pub IsSteady : {D : Type 0} → Sense D → (List ℕ → List ℕ → List ℕ → Bool) → List (Named D) → Line → Type 0

@@ -6,7 +6,7 @@ ghost use Rattle.replica.specs.Disks.{AreSoundFronts};
 ghost use Rattle.script.specs.Scripts.{with_line};
 ghost use Rattle.world.specs.Lines.{Tags, may_run};
 ghost use Rattle.world.specs.Crashes.{AreSafe, OpenAtEachMoment, OpenWhole, OpensWorld, opened_disks};
-ghost use Rattle.world.specs.Stops.{Acts, AreAsHonest, HasCause, IsFront, IsSteady, NoneFell, OwnRose, RefusesJournal, StepsReopening, changed_name, Steps as IsStepOf};
+ghost use Rattle.world.specs.Stops.{Acts, AreAsHonest, HasCause, IsFront, IsSteady, NoneFell, OwnFalls, RefusesJournal, StepsReopening, changed_name, Steps as IsStepOf};
 ghost use Rattle.world.specs.Worlds.{AreUp, declared, disks_of, with_message};
 ghost use Rattle.world.specs.declared.stop.RunStop.TheVariants as stop;
 ghost use Rattle.world.specs.working.Kinds.{Keeping, is_changing, is_making, is_showing};
@@ -233,7 +233,7 @@ impl<R: Runner, G: Graph, F: FactBase, D: Disk> World<R, G, F, D> {
         ensures disks { NoneFell D.faults (disks_of self.old) (disks_of self.new) }
         ensures honest { AreAsHonest D.honest (disks_of self.old) (disks_of self.new) }
         ensures cause { IfErr result (HasCause (E.faults env.old) (E.faults env.new) D.faults (disks_of self.old) (disks_of self.new)) }
-        ensures own { result ≡ Err stop.DiskFault → OwnRose D.faults (changed_name line.now) self.old.replicas self.new.replicas }
+        ensures own { result ≡ Err stop.DiskFault → OwnFalls D.faults (changed_name line.now) self.old.replicas self.new.replicas }
         ensures seals { IfErr result (λ why. why ≡ stop.SealFault → Acts line.now) }
         ensures journals { (name : List ℕ) (cause : OpenFault) → result ≡ Err (stop.Journal name cause) → RefusesJournal (record { tells = D.tells; content = D.content; honest = D.honest }) E.good self.old.replicas line.now name cause }
         ensures names { map (λ r. r.name) self.new.replicas ≡ map (λ r. r.name) self.old.replicas }

@@ -12,7 +12,7 @@ use Rattle.replica.specs.declared.refusal.Refusal.{Refusal}
 use Rattle.replica.specs.declared.refusal.Refusal.TheVariants as refusal
 use Rattle.script_texts.specs.Bytes.{Bytes}
 use Rattle.world.specs.Crashes.{AreSafe, OpenAtEachMoment}
-use Rattle.world.specs.Stops.{OwnRose, SomeRose}
+use Rattle.world.specs.Stops.{Falls, OwnFalls, SomeRose}
 use Rattle.world.specs.Worlds.{AreUp, EachPair, Named, Of, kept_of, with_kept}
 use Rattle.world.specs.declared.stop.RunStop.{RunStop}
 use Rattle.world.specs.working.Stopping.{IsCausedBy, IsStopFor}
@@ -25,9 +25,9 @@ IsDiskFault reply = (step : DiskStep) × (reply ≡ Err (refusal.DiskFault step)
 abbrev pub AreLater : {D : Type 0} → (D → ℕ) → (D → Bool) → List (Named D) → List (Named D) → Type 0
 AreLater faults honest old new = EachPair (λ r s. (s.name ≡ r.name) × (faults r.kept.disk ≤ faults s.kept.disk) × (honest s.kept.disk ≡ honest r.kept.disk)) old new
 
--- The count of a disk rose: that of this replica.
+-- The count of a disk rose: that of this replica, which is down.
 abbrev pub Fell : {D : Type 0} → (D → ℕ) → Option Bytes → List (Named D) → List (Named D) → Type 0
-Fell faults own old new = SomeRose faults (map (λ r. r.kept.disk) old) (map (λ r. r.kept.disk) new) × OwnRose faults own old new
+Fell faults own old new = SomeRose faults (map (λ r. r.kept.disk) old) (map (λ r. r.kept.disk) new) × OwnFalls faults own old new
 
 module _ {D : Type 0} (good : List ℕ → List ℕ → List ℕ → Bool) where
   -- Replicas that were reached differ from the old ones in the replica of this name alone, which holds this front there.
@@ -79,7 +79,7 @@ module _ {D : Type 0} (sense : Sense D) (good : List ℕ → List ℕ → List �
       pub is : kept_of old name ≡ Some before
       pub set : new ≡ with_kept old name after
       pub up : (after.down ≡ None) ⊎ IsDiskFault reply
-      pub cause : IfErr reply (IsCausedBy sealed (Rose (faults before.disk) (faults after.disk)))
+      pub cause : IfErr reply (IsCausedBy sealed (Falls faults before after))
       pub fares : Fares reached old name before after
 
     -- ---- all replicas
