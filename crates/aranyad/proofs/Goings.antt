@@ -8,9 +8,9 @@ use Rattle.journal.specs.declared.fault.OpenFault.{OpenFault}
 use Rattle.policy_ast.specs.declared.policy.PlacedItem.{PlacedItem}
 use Rattle.replica.specs.Disks.{Sense}
 use Rattle.script.specs.declared.line.Line.{Line}
-use Rattle.world.specs.Crashes.{AreSafe, IsOpenedOn, IsWhyNot, OpenWhole}
+use Rattle.world.specs.Crashes.{AreSafe, IsOpenedOn, IsWhyNot, OpenAtEachMoment, OpenWhole}
 use Rattle.world.specs.Lines.{Runs, Tags}
-use Rattle.world.specs.Stops.{Acts, LeavesFront}
+use Rattle.world.specs.Stops.{Acts, IsFront, LeavesFront}
 use Rattle.world.specs.Worlds.{AreUp, Site, disks_of}
 use Rattle.world.specs.declared.stop.RunStop.{RunStop}
 use Rattle.world.specs.declared.stop.RunStop.TheVariants as stop
@@ -18,7 +18,7 @@ use Rattle.aranyad.specs.Checking.{Checks, ReadsOr}
 use Rattle.aranyad.specs.Ending.{ReadHalts}
 use Rattle.aranyad.specs.Loading.{Holds}
 use Rattle.aranyad.specs.Printing.{Goes, HaltsAtOnce, Prints, Says}
-use Rattle.aranyad.specs.Scripts.{LeavesDisks, LeavesUnopened, RanUpTo, RunsOpened, names_of}
+use Rattle.aranyad.specs.Scripts.{IsDown, LeavesDisks, LeavesUnopened, RanUpTo, RunsOpened, names_of}
 use Rattle.aranyad.specs.Scripts as scripts
 use Rattle.aranyad.specs.Written.{WritesFront}
 use Rattle.aranyad.specs.working.Following.{EndsBy, RunsIn}
@@ -142,25 +142,25 @@ module _ {D : Type 0} (sense : Sense D) (tags : Tags) (first : Site D) (lines : 
   quiet texts done seen new none printed so_far = printed ∙ ap (λ ts. append_known seen (concat ts)) none ∙ append_none seen ∙ so_far
 
   pub line_stopped : (one : Line) (behind : List Line) (mid now : Site D) (seen new : Option (List ℕ)) (by : RunStop) (result : Result Ending Halt) → SoFar tags first lines old (one ∷ behind) mid seen →
-      LeavesDisks sense tags first lines now (disks_of now) → LeavesFront tags mid one now → (by ≡ stop.SealFault → Acts one) → ((name : List ℕ) (cause : OpenFault) → by ≡ stop.Journal name cause → ⊥) →
+      LeavesDisks sense tags first lines now (disks_of now) → LeavesFront tags mid one now → OpenAtEachMoment sense tags.good (IsFront tags mid one) mid.replicas now.replicas → (by ≡ stop.DiskFault → IsDown one now.replicas) → (by ≡ stop.SealFault → Acts one) → ((name : List ℕ) (cause : OpenFault) → by ≡ stop.Journal name cause → ⊥) →
       Goes (EndsBy by) result seen new → Goes (RunsIn sense tags first lines now) result old new
-  line_stopped one behind mid now seen new stop.DiskFault result so_far left front acts journals goes =
+  line_stopped one behind mid now seen new stop.DiskFault result so_far left front moments down acts journals goes =
       subst (λ r. Goes (RunsIn sense tags first lines now) r old new) (sym goes.is.0) (record {
         texts = so_far.texts;
-        is = ((one, record { behind = behind; mid = mid; up_to = so_far.up_to; front = front }), left);
+        is = ((one, down refl, record { behind = behind; mid = mid; up_to = so_far.up_to; front = front; moments = moments }), left);
         printed = quiet goes.texts so_far.texts seen new goes.is.1 (subst (λ r. Prints r goes.texts seen new) goes.is.0 goes.printed) so_far.printed;
       })
-  line_stopped one behind mid now seen new stop.SealFault result so_far left front acts journals goes =
+  line_stopped one behind mid now seen new stop.SealFault result so_far left front moments down acts journals goes =
       subst (λ r. Goes (RunsIn sense tags first lines now) r old new) (sym goes.is.0) (record {
         texts = so_far.texts;
-        is = ((one, acts refl, record { behind = behind; mid = mid; up_to = so_far.up_to; front = front }), left);
+        is = ((one, acts refl, record { behind = behind; mid = mid; up_to = so_far.up_to; front = front; moments = moments }), left);
         printed = quiet goes.texts so_far.texts seen new goes.is.1 (subst (λ r. Prints r goes.texts seen new) goes.is.0 goes.printed) so_far.printed;
       })
-  line_stopped one behind mid now seen new (stop.Journal name cause) result so_far left front acts journals goes = absurd (journals name cause refl)
-  line_stopped one behind mid now seen new stop.NoMemory result so_far left front acts journals goes =
+  line_stopped one behind mid now seen new (stop.Journal name cause) result so_far left front moments down acts journals goes = absurd (journals name cause refl)
+  line_stopped one behind mid now seen new stop.NoMemory result so_far left front moments down acts journals goes =
       subst (λ r. Goes (RunsIn sense tags first lines now) r old new) (sym goes.is.0) (record {
         texts = so_far.texts;
-        is = ((one, record { behind = behind; mid = mid; up_to = so_far.up_to; front = front }), left);
+        is = ((one, record { behind = behind; mid = mid; up_to = so_far.up_to; front = front; moments = moments }), left);
         printed = quiet goes.texts so_far.texts seen new goes.is.1 (subst (λ r. Prints r goes.texts seen new) goes.is.0 goes.printed) so_far.printed;
       })
 

@@ -18,11 +18,11 @@ use Rattle.script.specs.declared.line.Line.{Line}
 use Rattle.script.specs.declared.line.Line.TheVariants as line
 use Rattle.world.specs.Crashes.{AreOpened, AreSafe, IsOpenedOn, IsWhyNot, OpenAtEachMoment, OpenWhole, OpensIn, RefusesFirst}
 use Rattle.world.specs.Lines.{Tags, may_run}
-use Rattle.world.specs.Stops.{IsFront, IsSteady, RefusesJournal}
+use Rattle.world.specs.Stops.{IsFront, IsSteady, OwnFalls, RefusesJournal, changed_name}
 use Rattle.world.specs.Worlds.{AreUp, Named, Site, disks_of, kept_of}
 use Rattle.world.specs.declared.stop.RunStop.{RunStop}
 use Rattle.world.specs.declared.stop.RunStop.TheVariants as stop
-use Rattle.aranyad.specs.Scripts.{IsReached, LeavesDisks, RanUpTo, names_of}
+use Rattle.aranyad.specs.Scripts.{IsDown, IsReached, LeavesDisks, RanUpTo, names_of}
 use Rattle.aranyad.specs.working.Following.{FollowIn, IsPlainStop}
 
 -- ---- replicas by name
@@ -162,6 +162,10 @@ module _ {D : Type 0} (sense : Sense D) (tags : Tags) (first : Site D) (lines : 
     moments = at.moments;
     reads = λ a kept is up. let safe = at.safe a kept is in opens_held sense tags.good kept (sense.content kept.disk).reads up (safe.1 (sense.content kept.disk).reads (images kept.disk safe.0.tells safe.0.honest));
   }
+
+-- the replica of a line that its disk stopped is down
+pub own_down : {D : Type 0} (faults : D → ℕ) (one : Line) (old new : List (Named D)) → OwnFalls faults (changed_name one) old new → IsDown one new
+own_down faults one old new (a, before, after, named, was, is, falls) = (a, named, (after, is, falls.1))
 
 -- ---- openings
 

@@ -1,5 +1,5 @@
 -- How the lines of a script are run in a world, one after another.
-use Rattle.std.specs.Prelude.{◌≡◌, ◌⊎◌, ℕ, List, [], ◌∷◌, ◌++◌, drop, length, Some, None, Result, Ok, Err}
+use Rattle.std.specs.Prelude.{◌≡◌, ◌⊎◌, ℕ, List, [], ◌∷◌, ◌++◌, drop, length, Some, None, IsSome, Result, Ok, Err}
 use Rattle.std.specs.List.{flat_map}
 use Rattle.journal.specs.declared.fault.OpenFault.{OpenFault}
 use Rattle.journal.specs.declared.fault.OpenFault.TheVariants as fault
@@ -12,8 +12,8 @@ use Rattle.script.specs.declared.line.Line.TheVariants as line
 use Rattle.script_texts.specs.Modes.{damaged_text, journal_policy_text}
 use Rattle.world.specs.Crashes.{AreSafe, IsOpenedOn, OpenAtEachMoment, OpenWhole, RefusesFirst}
 use Rattle.world.specs.Lines.{Runs, Tags}
-use Rattle.world.specs.Stops.{Acts, IsFront, LeavesFront}
-use Rattle.world.specs.Worlds.{AreUp, Named, Site, disks_of, kept_of}
+use Rattle.world.specs.Stops.{Acts, IsFront, LeavesFront, changed_name}
+use Rattle.world.specs.Worlds.{AreUp, Named, Of, Site, disks_of, kept_of}
 use Rattle.aranyad.specs.declared.ending.Ending.{Ending}
 use Rattle.aranyad.specs.declared.ending.Ending.TheVariants as ending
 use Rattle.aranyad.specs.declared.ending.Halt.{Halt}
@@ -41,27 +41,34 @@ module _ {D : Type 0} (tags : Tags) (first : Site D) where
     pub whole : done ++ left ≡ lines
     pub ran : Ran done texts now
 
-  -- The run stopped in a line, whose text isn't printed: the replicas are as a front of the line's events left them.
-  pub record StopsIn (lines : List Line) (one : Line) (texts : List (List ℕ)) (new : Site D) : Type 0 where
-    pub behind : List Line
-    pub mid : Site D
-    pub up_to : RanUpTo lines (one ∷ behind) texts mid
-    pub front : LeavesFront tags mid one new
-
-  -- The lines of a script are run to the last one; or up to a text that isn't printed whole; or to a line whose disk or seal failed; or as far as there was
-  -- memory.
-  abbrev pub RunsLines : List Line → Result Ending Halt → List (List ℕ) → Site D → Type 0
-  RunsLines lines (Ok end) texts new = (end ≡ ending.Done) × RanUpTo lines [] texts new × AreUp new.replicas
-  RunsLines lines (Err halt.Read) texts new = ⊥
-  RunsLines lines (Err halt.Write) texts new = (left : List Line) × RanUpTo lines left texts new
-  RunsLines lines (Err halt.Disk) texts new = (one : Line) × StopsIn lines one texts new
-  RunsLines lines (Err halt.Seal) texts new = (one : Line) × Acts one × StopsIn lines one texts new
-  RunsLines lines (Err halt.Memory) texts new = (one : Line) × StopsIn lines one texts new
-
   -- Some front of the events of a script's lines leads to these replicas.
   abbrev pub IsReached : List Line → List (Named D) → Type 0
   IsReached lines replicas =
       (replicas ≡ first.replicas) ⊎ ((one : Line) × (behind : List Line) × (texts : List (List ℕ)) × (mid : Site D) × RanUpTo lines (one ∷ behind) texts mid × IsFront tags mid one replicas)
+
+-- The replica that a line may change is down.
+abbrev pub IsDown : {D : Type 0} → Line → List (Named D) → Type 0
+IsDown one replicas = (a : List ℕ) × (changed_name one ≡ Some a) × Of replicas a (λ kept. IsSome kept.down)
+
+module _ {D : Type 0} (sense : Sense D) (tags : Tags) (first : Site D) where
+  -- The run stopped in a line, whose text isn't printed: the replicas are as a front of the line's events left them, and a crash at any moment of the line leaves
+  -- of each disk what opens to what its replica holds after such a front.
+  pub record StopsIn (lines : List Line) (one : Line) (texts : List (List ℕ)) (new : Site D) : Type 0 where
+    pub behind : List Line
+    pub mid : Site D
+    pub up_to : RanUpTo tags first lines (one ∷ behind) texts mid
+    pub front : LeavesFront tags mid one new
+    pub moments : OpenAtEachMoment sense tags.good (IsFront tags mid one) mid.replicas new.replicas
+
+  -- The lines of a script are run to the last one; or up to a text that isn't printed whole; or to a line whose disk or seal failed; or as far as there was
+  -- memory. Where a disk failed, it is that of the replica which the line may change.
+  abbrev pub RunsLines : List Line → Result Ending Halt → List (List ℕ) → Site D → Type 0
+  RunsLines lines (Ok end) texts new = (end ≡ ending.Done) × RanUpTo tags first lines [] texts new × AreUp new.replicas
+  RunsLines lines (Err halt.Read) texts new = ⊥
+  RunsLines lines (Err halt.Write) texts new = (left : List Line) × RanUpTo tags first lines left texts new
+  RunsLines lines (Err halt.Disk) texts new = (one : Line) × IsDown one new.replicas × StopsIn lines one texts new
+  RunsLines lines (Err halt.Seal) texts new = (one : Line) × Acts one × StopsIn lines one texts new
+  RunsLines lines (Err halt.Memory) texts new = (one : Line) × StopsIn lines one texts new
 
 -- Why a journal is refused, as it is printed.
 abbrev pub journal_text : List ℕ → OpenFault → List ℕ
@@ -95,4 +102,4 @@ module _ {D : Type 0} (sense : Sense D) (tags : Tags) where
         ⊎ ((name : List ℕ) × (cause : OpenFault) × RefusesFirst sense tags.good policy digest (names_of lines) disks name cause × Says ending.JournalRefused (journal_text name cause) result texts
         × LeavesUnopened lines left)
         ⊎ ((first : Site D) × (new : Site D) × IsOpenedOn sense tags.good policy digest (names_of lines) disks first × OpenWhole sense tags.good policy digest disks (disks_of first)
-        × AreSafe sense tags.good first.replicas × RunsLines tags first lines result texts new × LeavesDisks first lines new left)
+        × AreSafe sense tags.good first.replicas × RunsLines sense tags first lines result texts new × LeavesDisks first lines new left)

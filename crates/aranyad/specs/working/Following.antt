@@ -27,7 +27,7 @@ pub record FollowIn {D : Type 0} (site : Site D) (lines : List Line) : Type 0 wh
 
 -- The lines are run in a world, and its disks are left as those lines leave them.
 abbrev pub RunsIn : {D : Type 0} → Sense D → Tags → Site D → List Line → Site D → Result Ending Halt → List (List ℕ) → Type 0
-RunsIn sense tags first lines new result texts = RunsLines tags first lines result texts new × LeavesDisks sense tags first lines new (disks_of new)
+RunsIn sense tags first lines new result texts = RunsLines sense tags first lines result texts new × LeavesDisks sense tags first lines new (disks_of new)
 
 -- ---- a world that stopped
 

@@ -6,7 +6,7 @@ use Rattle.world.specs.Worlds.{disks_of}
 use Rattle.aranyad.specs.working.Following.{FollowIn}
 use Rattle.aranyad.proofs.Followings.{follow_on, may_be_run}
 use Rattle.aranyad.proofs.Goings.{SoFar, at_hand, front_as, line_broken, line_printed, line_stopped, lines_begin, lines_done, printed_as}
-use Rattle.aranyad.proofs.Moments.{leaves, not_refused, plain_step, stands_first, stands_on, steady}
+use Rattle.aranyad.proofs.Moments.{leaves, not_refused, own_down, plain_step, stands_first, stands_on, steady}
 use Rattle.aranyad.proofs.Rises.{later_at_once, later_from, stop_halts}
 use Rattle.aranyad.proofs.running.run_lines.Goals as goal
 
@@ -46,7 +46,8 @@ returns-in-Err-clause-goes g c = λ safe.
     let line = c.in-Err.ensures.line (steady sense g.E.Envelope.good c.loop-line.world c.line-item.result at.1.safe may) in
     let stands = stands_on sense tags c.args.world.now c.args.lines.now c.line-item.result _ so_far.texts c.loop-line.world c.step.new.self so_far.up_to at.1 c.in-Err.ensures.names c.in-Err.ensures.spare c.in-Err.ensures.crash in
     line_stopped sense tags c.args.world.now c.args.lines.now (g.K.Sink.written c.args.out.now) c.line-item.result _ c.loop-line.world c.step.new.self _ _ c.in-Err.stop c.end_stopped.result so_far
-    (leaves sense tags c.args.world.now c.args.lines.now c.step.new.self g.met.D.Disk.reads_image stands) line.0 c.in-Err.ensures.seals
+    (leaves sense tags c.args.world.now c.args.lines.now c.step.new.self g.met.D.Disk.reads_image stands) line.0 (c.in-Err.ensures.crash at.1.safe).1
+    (λ is. own_down g.D.Disk.faults c.line-item.result c.loop-line.world.replicas c.step.new.self.replicas (c.in-Err.ensures.own (ap Err is))) c.in-Err.ensures.seals
     (λ name cause is. not_refused sense g.E.Envelope.good c.loop-line.world.replicas c.line-item.result name cause at.1.safe (c.in-Err.ensures.journals name cause (ap Err is)))
     c.end_stopped.ensures.goes
 
