@@ -9,7 +9,7 @@ ghost use Rattle.policy_infer.specs.working.Answers.{Allows};
 use crate::finish::finish_stmts;
 use crate::refusal::Refusal;
 use crate::scope::Scope;
-use crate::statement_rules::Allowed;
+use crate::passing::Allowed;
 use crate::statements::judge_all;
 use base_bytes::NoMemory;
 use policy_ast::{FinishStmt, Stmt};
