@@ -1,6 +1,6 @@
 //! Statements of actions.
 
-ghost use Rattle.std.specs.Prelude.{◌≡◌, ◌≤◌, ℕ, List, IfOk, IfSome, IsTrue, OnOk};
+ghost use Rattle.std.specs.Prelude.{◌≡◌, ◌≤◌, ℕ, List, Some, IfOk, IfSome, IsTrue, OnOk};
 ghost use Rattle.base_bytes.specs.declared.value.Value.{Value};
 ghost use Rattle.fact_store.specs.Rows.{are_keys};
 ghost use Rattle.fact_store.specs.declared.wanted.Wanted.{Wanted};
@@ -10,9 +10,9 @@ ghost use Rattle.policy_meaning.specs.Outcomes.{Out};
 ghost use Rattle.policy_meaning.specs.Typed.{AreTyped, IsCommandOf};
 ghost use Rattle.policy_meaning.specs.Values.{struct_parts};
 ghost use Rattle.policy_rules.specs.WellTyped.{items_of};
-ghost use Rattle.policy_eval.specs.working.Acting.{Acts, GivesRows, GoesWell, standing};
+ghost use Rattle.policy_eval.specs.working.Acting.{Acts, GivesRows, GoesWell, posted_as, standing};
 ghost use Rattle.policy_eval.specs.working.ActionRooms.{arms_room, deeds_room};
-ghost use Rattle.policy_eval.specs.working.Deeds.{deed, deeds, else_deed, row_entered, rows_matching};
+ghost use Rattle.policy_eval.specs.working.Deeds.{deed, deeds, else_deed, row_entered, row_entering, rows_matching};
 ghost use Rattle.policy_eval.specs.working.Endings.{GivesBody};
 ghost use Rattle.policy_eval.specs.working.Steps.{body_of};
 
@@ -39,6 +39,36 @@ fn parts_of(value: Value) -> Option<(u32, Values)>
     }
 }
 
+/// What the desk's answer comes to.
+fn posted_as(posted: Posted) -> Result<(), Cause>
+    ensures { result ≡ posted_as posted }
+{
+    match posted {
+        Posted::Taken => Ok(()),
+        Posted::TooLong => Err(Cause::Stop(Stop::Fault(FaultKind::TooLong))),
+        Posted::Refused => Err(Cause::Refused),
+    }
+}
+
+/// Brings a command of this number and these fields to the desk.
+fn bring<F: FactBase, P: Desk<F>, L: Ledger>(
+    alloc: Global,
+    facts: &mut F,
+    desk: &mut P,
+    steps: &mut Steps<L>,
+    command: u32,
+    fields: Values,
+) -> Result<(), Cause>
+    requires typed { AreTyped (P.policy desk.old) (F.rows facts.old) }
+    requires declared { IsCommandOf (P.policy desk.old) command fields }
+    ensures acts { (turns : ℕ) → Acts P.publishes (P.policy desk.old) result tt (published (Some (command, fields))) (standing desk.old (F.rows facts.old) turns steps.old) (standing desk.new (F.rows facts.new) turns steps.new) }
+    ensures keeps { P.keeps desk.old desk.new }
+    ensures policy { P.policy desk.new ≡ P.policy desk.old }
+{
+    let posted = desk.publish(alloc, command, fields, facts, steps)?;
+    posted_as(posted)
+}
+
 /// Brings a command to the desk.
 fn publish<F: FactBase, P: Desk<F>, L: Ledger>(
     alloc: Global,
@@ -56,11 +86,7 @@ fn publish<F: FactBase, P: Desk<F>, L: Ledger>(
     let Some((command, fields)) = parts_of(value) else {
         return Err(Cause::Stop(Stop::Stuck));
     };
-    match desk.publish(alloc, command, fields, facts, steps)? {
-        Posted::Taken => Ok(()),
-        Posted::TooLong => Err(Cause::Stop(Stop::Fault(FaultKind::TooLong))),
-        Posted::Refused => Err(Cause::Refused),
-    }
+    bring(alloc, facts, desk, steps, command, fields)
 }
 
 /// The rows that a `map` goes through.
@@ -88,15 +114,21 @@ fn arm_body<'b>(
     }
 }
 
+/// The value of a row, behind a turn that is taken.
+fn entering(turns: &mut u32, row: Row) -> Answer<Value>
+    ensures { Gives result turns.new (row_entering row turns.old) }
+{
+    take_turn(turns)?;
+    Ok(row_value(row)?)
+}
+
 /// Takes a turn, and names a row.
 fn enter_row<'a>(env: &mut Env<'a>, turns: &mut u32, name: &'a Name, row: Row) -> Answer<()>
     ensures gives { Leaves result env.new turns.new (row_entered name.now env.old row turns.old) }
     ensures kept { Keeps env.old env.new }
 {
-    take_turn(turns)?;
-    let value = row_value(row)?;
-    env.push(name, value)?;
-    Ok(())
+    let found = entering(turns, row);
+    let_in(env, name, found)
 }
 
 /// One statement. The names that it introduces stay.
