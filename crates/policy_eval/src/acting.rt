@@ -1,29 +1,27 @@
 //! Statements of actions.
 
-ghost use Rattle.std.specs.Prelude.{◌≡◌, ◌≤◌, ℕ, List, Some, IfOk, IfSome, IsTrue, OnOk};
+ghost use Rattle.std.specs.Prelude.{◌≡◌, ℕ, List, Some, IfOk, IfSome, IsTrue, OnOk};
 ghost use Rattle.base_bytes.specs.declared.value.Value.{Value};
 ghost use Rattle.fact_store.specs.Rows.{are_keys};
 ghost use Rattle.fact_store.specs.declared.wanted.Wanted.{Wanted};
 ghost use Rattle.policy_expressions.specs.Answers.{Gives, Keeps, Leaves};
 ghost use Rattle.policy_meaning.specs.Actions.{each_row, inside, published};
-ghost use Rattle.policy_meaning.specs.Outcomes.{Out};
+ghost use Rattle.policy_meaning.specs.Outcomes.{Done, Out};
 ghost use Rattle.policy_meaning.specs.Typed.{AreTyped, IsCommandOf};
 ghost use Rattle.policy_meaning.specs.Values.{struct_parts};
 ghost use Rattle.policy_rules.specs.WellTyped.{items_of};
 ghost use Rattle.policy_eval.specs.working.Acting.{Acts, GivesRows, GoesWell, posted_as, standing};
-ghost use Rattle.policy_eval.specs.working.ActionRooms.{arms_room, deeds_room};
 ghost use Rattle.policy_eval.specs.working.Deeds.{deed, deeds, else_deed, row_entered, row_entering, rows_matching};
-ghost use Rattle.policy_eval.specs.working.Endings.{GivesBody};
-ghost use Rattle.policy_eval.specs.working.Steps.{body_of};
 
 use crate::cause::{Cause, caused};
 use crate::expressions::{value_of, wanted_of};
+use crate::flow::body_taken;
 use crate::limits::LONGEST;
 use base_bytes::{Steps, Value, Values};
 use fact_store::{FactBase, Row, Wanted};
-use policy_ast::{Arm, Else, IfStmt, Name, Stmt};
+use policy_ast::{Else, IfStmt, Name, Stmt};
 use policy_expressions::{
-    Answer, Env, Known, Setting, Stop, check_of, first_body, let_in, row_value, take_turn, truth_of,
+    Answer, Env, Known, Setting, Stop, check_of, let_in, row_value, take_turn, truth_of,
 };
 use policy_meaning::{Desk, FaultKind, Posted};
 use std::alloc::Global;
@@ -89,29 +87,21 @@ fn publish<F: FactBase, P: Desk<F>, L: Ledger>(
     bring(alloc, facts, desk, steps, command, fields)
 }
 
+/// The rows that match.
+fn selected<F: FactBase>(alloc: Global, facts: &F, wanted: &Wanted) -> Answer<Vec<Row>>
+    requires keys { IsTrue (are_keys wanted.now.keys) }
+    ensures { (turns : ℕ) → GivesRows result turns (rows_matching (F.rows facts.now) (Done wanted.now turns)) }
+{
+    Ok(facts.select(alloc, wanted)?)
+}
+
 /// The rows that a `map` goes through.
 fn rows_of<F: FactBase>(alloc: Global, facts: &F, found: Answer<Wanted>) -> Answer<Vec<Row>>
     requires keys { IfOk found (λ wanted. IsTrue (are_keys wanted.keys)) }
     ensures { (turns : ℕ) (out : Out Wanted) → Gives found turns out → GivesRows result turns (rows_matching (F.rows facts.now) out) }
 {
     let wanted = found?;
-    Ok(facts.select(alloc, &wanted)?)
-}
-
-/// The body of the first arm that takes the value.
-fn arm_body<'b>(
-    known: &Known<'_>,
-    arms: &'b [Arm<Stmt>],
-    found: Answer<Value>,
-) -> Answer<&'b [Stmt]>
-    ensures gives { (turns : ℕ) (out : Out Value) → Gives found turns out → GivesBody result turns (body_of known.now arms.now out) }
-    ensures within { IfOk result (λ body. deeds_room body.now ≤ arms_room arms.now) }
-{
-    let value = found?;
-    match first_body(known, &value, arms) {
-        Some(body) => Ok(body),
-        None => Err(Stop::Stuck),
-    }
+    selected(alloc, facts, &wanted)
 }
 
 /// The value of a row, behind a turn that is taken.
@@ -184,7 +174,7 @@ fn act<'a, F: FactBase, P: Desk<F>, L: Ledger>(
         }
         Stmt::Match(e, arms) => {
             let found = value_of(alloc, known, &*facts, setting, LONGEST, env, turns, e);
-            let body = arm_body(known, arms.as_slice(), found)?;
+            let body = body_taken(known, arms.as_slice(), found)?;
             act_block(alloc, known, setting, facts, desk, steps, env, turns, body)
         }
         Stmt::Map(p, name, body) => {

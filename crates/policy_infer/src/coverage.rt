@@ -11,8 +11,8 @@ ghost use Rattle.policy_infer.specs.working.Behind.{matches_of};
 ghost use Rattle.policy_infer.specs.working.Listed.{AreListed};
 
 use crate::forms::Typed;
-use crate::pattern_set::PatternSet;
 use crate::passing::{Allowed, allowed};
+use crate::pattern_set::PatternSet;
 use base_bytes::NoMemory;
 use policy_ast::{Arm, ArmPattern, Name, PatternLiteral, Stmt};
 use policy_heads::{Heads, fits};

@@ -13,10 +13,10 @@ ghost use Rattle.policy_infer.specs.working.Behind.{arguments_of, emits_of, fini
 use crate::expressions::{infer, infer_all, infer_binds};
 use crate::field_lists::{arguments_fit, in_any_order, in_declared_order, value_part};
 use crate::forms::{Typed, struct_name};
+use crate::passing::{Allowed, allowed, both_hold};
 use crate::plain::{are_plain, are_plain_binds, are_plain_fields, is_plain};
 use crate::refusal::Refusal;
 use crate::scope::Scope;
-use crate::passing::{Allowed, allowed, both_hold};
 use crate::statement_rules::is_pattern;
 use crate::uses::AllTyped;
 use base_bytes::NoMemory;
