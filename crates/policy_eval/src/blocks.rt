@@ -1,6 +1,6 @@
 //! The policy block and the recall block of a command.
 
-ghost use Rattle.std.specs.Prelude.{◌≡◌, [], Err, IfOk, List, OnOk};
+ghost use Rattle.std.specs.Prelude.{◌≡◌, Err, IfOk, List, OnOk};
 ghost use Rattle.std.specs.Option.{option_copied};
 ghost use Rattle.fact_store.specs.declared.row.Row.{Row};
 ghost use Rattle.policy_meaning.specs.Applying.{Ended};
@@ -24,32 +24,6 @@ use policy_types::Checked;
 use policy_types::laws::blocks_are_never_stuck;
 use std::alloc::Global;
 
-/// Runs a block of a command with these names in scope, which are none.
-fn run_body<'a, F: FactBase>(
-    alloc: Global,
-    known: &Known<'a>,
-    call: &Call,
-    facts: &mut F,
-    env: &mut Env<'a>,
-    body: &'a [Stmt],
-) -> Answer<Effects>
-    requires { env.old ≡ [] }
-    ensures { EndsSo result (body_ended known.now call.now (F.rows facts.old) body.now) (F.rows facts.old) (F.rows facts.new) }
-{
-    let setting = Setting::of_command(call);
-    let mut turns = TURNS;
-    match run_all(
-        alloc, known, &*facts, &setting, LONGEST, env, &mut turns, body,
-    )? {
-        Flow::Goes => Ok(Effects::new(alloc)),
-        Flow::Returns(_) => Err(Stop::Stuck),
-        Flow::Reached(statements) => {
-            let changes = listed(alloc, known, &*facts, &setting, env, &mut turns, statements)?;
-            apply_or_leave(alloc, changes, facts)
-        }
-    }
-}
-
 /// Runs a block of a command.
 fn run_block<'a, F: FactBase>(
     alloc: Global,
@@ -60,8 +34,21 @@ fn run_block<'a, F: FactBase>(
 ) -> Answer<Effects>
     ensures { EndsSo result (body_ended known.now call.now (F.rows facts.old) body.now) (F.rows facts.old) (F.rows facts.new) }
 {
+    let setting = Setting::of_command(call);
     let mut env = Env::new(alloc);
-    run_body(alloc, known, call, facts, &mut env, body)
+    let mut turns = TURNS;
+    match run_all(
+        alloc, known, &*facts, &setting, LONGEST, &mut env, &mut turns, body,
+    )? {
+        Flow::Goes => Ok(Effects::new(alloc)),
+        Flow::Returns(_) => Err(Stop::Stuck),
+        Flow::Reached(statements) => {
+            let changes = listed(
+                alloc, known, &*facts, &setting, &mut env, &mut turns, statements,
+            )?;
+            apply_or_leave(alloc, changes, facts)
+        }
+    }
 }
 
 /// The block of the first section of policy.
