@@ -30,6 +30,7 @@ use Rattle.policy_meaning.specs.Outcomes.{Stuck, Out, Done, Ends, ◌>>=◌, or_
 use Rattle.policy_meaning.specs.Typed.{AreTyped, IsCommandOf}
 use Rattle.policy_meaning.specs.Values.{struct_parts}
 use Rattle.policy_meaning.specs.declared.ends.Posted.{Posted}
+use Rattle.policy_meaning.specs.declared.ends.Posted.TheVariants as posted
 use Rattle.policy_rules.specs.Calls.{longest_chain}
 use Rattle.policy_rules.specs.Names.{Name}
 use Rattle.policy_eval.proofs.ActionLoops.{keeps_all}
@@ -37,7 +38,7 @@ use Rattle.policy_eval.proofs.ActForms.{acts_all, begins, check_told, choice_tol
 use Rattle.policy_eval.proofs.ActingFacts.{acted_publish, acted_still, acted_then, goes_from, goes_into}
 use Rattle.policy_eval.proofs.DeedForms.{check_is, choice_is, finish_is, let_is, map_is, match_is, publish_is, return_is}
 use Rattle.policy_eval.specs.declared.cause.Cause.{Cause}
-use Rattle.policy_eval.specs.working.Acting.{Acted, Acts, GivesRows, GoesWell, Standing, StopsFor, StopsWell, caused, halted, reason, settled, standing, world}
+use Rattle.policy_eval.specs.working.Acting.{Acted, Acts, GivesRows, GoesWell, Standing, StopsFor, StopsWell, caused, halted, posted_as, reason, settled, standing, world}
 use Rattle.policy_eval.specs.working.Deeds.{arm_deed, deed, deeds, else_deed, rows_matching}
 use Rattle.policy_eval.specs.working.Endings.{Evaluates, GivesBody}
 use Rattle.policy_eval.specs.working.Steps.{body_of}
@@ -266,13 +267,18 @@ module _ {D : Type 0} (publishes : D → List Row → Posting → D → Type 0) 
 -- ---- what the desk answers
 
 module _ {D : Type 0} (publishes : D → List Row → Posting → D → Type 0) (policy : List PlacedItem) where
-  pub posted_on : (o : Option (ℕ × List Value)) (command : ℕ) (fields : List Value) → o ≡ Some (command, fields) → (posted told : Posted) → posted ≡ told → (old new : D) (rows last : List Row) (before now : ℕ)
-      → Publishes publishes old rows command fields posted before now new last → Stay posted rows last → AreTyped policy last → (turns : ℕ)
-      → Acted publishes policy (published o) (after_answer told) (standing old rows turns before) (standing new last turns now)
-  posted_on o command fields is posted told same old new rows last before now publishes_so stays typed turns =
-      subst (λ told. Acted publishes policy (published o) (after_answer told) (standing old rows turns before) (standing new last turns now)) same
-      (subst (λ o. Acted publishes policy (published o) (after_answer posted) (standing old rows turns before) (standing new last turns now)) (sym is)
-      (acted_publish publishes policy command fields posted (standing old rows turns before) (standing new last turns now) publishes_so stays typed refl))
+  pub posted_on : (command : ℕ) (fields : List Value) (told : Posted) (result : Result (Unit {0}) Cause) → result ≡ posted_as told → (old new : D) (rows last : List Row) (before now : ℕ)
+      → Publishes publishes old rows command fields told before now new last → Stay told rows last → AreTyped policy last → (turns : ℕ)
+      → Acts publishes policy result tt (published (Some (command, fields))) (standing old rows turns before) (standing new last turns now)
+  posted_on command fields told result is old new rows last before now publishes_so stays typed turns =
+      subst (λ result. Acts publishes policy result tt (published (Some (command, fields))) (standing old rows turns before) (standing new last turns now)) (sym is)
+      (by told (acted_publish publishes policy command fields told (standing old rows turns before) (standing new last turns now) publishes_so stays typed refl))
+    where
+      by : (told : Posted) → Acted publishes policy (published (Some (command, fields))) (after_answer told) (standing old rows turns before) (standing new last turns now)
+          → Acts publishes policy (posted_as told) tt (published (Some (command, fields))) (standing old rows turns before) (standing new last turns now)
+      by posted.Taken acts = acts
+      by posted.TooLong acts = acts
+      by posted.Refused acts = acts
 
   pub parts_stick : (o : Option (ℕ × List Value)) → o ≡ None → (desk : D) (rows : List Row) (turns ticks : ℕ) → AreTyped policy rows
       → Acted publishes policy (published o) (Stops (Halts Stuck)) (standing desk rows turns ticks) (standing desk rows turns ticks)

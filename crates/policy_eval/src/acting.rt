@@ -1,29 +1,27 @@
 //! Statements of actions.
 
-ghost use Rattle.std.specs.Prelude.{◌≡◌, ◌≤◌, ℕ, List, IfOk, IfSome, IsTrue, OnOk};
+ghost use Rattle.std.specs.Prelude.{◌≡◌, ℕ, List, Some, IfOk, IfSome, IsTrue, OnOk};
 ghost use Rattle.base_bytes.specs.declared.value.Value.{Value};
 ghost use Rattle.fact_store.specs.Rows.{are_keys};
 ghost use Rattle.fact_store.specs.declared.wanted.Wanted.{Wanted};
 ghost use Rattle.policy_expressions.specs.Answers.{Gives, Keeps, Leaves};
 ghost use Rattle.policy_meaning.specs.Actions.{each_row, inside, published};
-ghost use Rattle.policy_meaning.specs.Outcomes.{Out};
+ghost use Rattle.policy_meaning.specs.Outcomes.{Done, Out};
 ghost use Rattle.policy_meaning.specs.Typed.{AreTyped, IsCommandOf};
 ghost use Rattle.policy_meaning.specs.Values.{struct_parts};
 ghost use Rattle.policy_rules.specs.WellTyped.{items_of};
-ghost use Rattle.policy_eval.specs.working.Acting.{Acts, GivesRows, GoesWell, standing};
-ghost use Rattle.policy_eval.specs.working.ActionRooms.{arms_room, deeds_room};
-ghost use Rattle.policy_eval.specs.working.Deeds.{deed, deeds, else_deed, row_entered, rows_matching};
-ghost use Rattle.policy_eval.specs.working.Endings.{GivesBody};
-ghost use Rattle.policy_eval.specs.working.Steps.{body_of};
+ghost use Rattle.policy_eval.specs.working.Acting.{Acts, GivesRows, GoesWell, posted_as, standing};
+ghost use Rattle.policy_eval.specs.working.Deeds.{deed, deeds, else_deed, row_entered, row_entering, rows_matching};
 
 use crate::cause::{Cause, caused};
 use crate::expressions::{value_of, wanted_of};
+use crate::flow::body_taken;
 use crate::limits::LONGEST;
 use base_bytes::{Steps, Value, Values};
 use fact_store::{FactBase, Row, Wanted};
-use policy_ast::{Arm, Else, IfStmt, Name, Stmt};
+use policy_ast::{Else, IfStmt, Name, Stmt};
 use policy_expressions::{
-    Answer, Env, Known, Setting, Stop, check_of, first_body, let_in, row_value, take_turn, truth_of,
+    Answer, Env, Known, Setting, Stop, check_of, let_in, row_value, take_turn, truth_of,
 };
 use policy_meaning::{Desk, FaultKind, Posted};
 use std::alloc::Global;
@@ -37,6 +35,36 @@ fn parts_of(value: Value) -> Option<(u32, Values)>
         Value::Struct(item, fields) => Some((item, fields)),
         _ => None,
     }
+}
+
+/// What the desk's answer comes to.
+fn posted_as(posted: Posted) -> Result<(), Cause>
+    ensures { result ≡ posted_as posted }
+{
+    match posted {
+        Posted::Taken => Ok(()),
+        Posted::TooLong => Err(Cause::Stop(Stop::Fault(FaultKind::TooLong))),
+        Posted::Refused => Err(Cause::Refused),
+    }
+}
+
+/// Brings a command of this number and these fields to the desk.
+fn bring<F: FactBase, P: Desk<F>, L: Ledger>(
+    alloc: Global,
+    facts: &mut F,
+    desk: &mut P,
+    steps: &mut Steps<L>,
+    command: u32,
+    fields: Values,
+) -> Result<(), Cause>
+    requires typed { AreTyped (P.policy desk.old) (F.rows facts.old) }
+    requires declared { IsCommandOf (P.policy desk.old) command fields }
+    ensures acts { (turns : ℕ) → Acts P.publishes (P.policy desk.old) result tt (published (Some (command, fields))) (standing desk.old (F.rows facts.old) turns steps.old) (standing desk.new (F.rows facts.new) turns steps.new) }
+    ensures keeps { P.keeps desk.old desk.new }
+    ensures policy { P.policy desk.new ≡ P.policy desk.old }
+{
+    let posted = desk.publish(alloc, command, fields, facts, steps)?;
+    posted_as(posted)
 }
 
 /// Brings a command to the desk.
@@ -56,11 +84,15 @@ fn publish<F: FactBase, P: Desk<F>, L: Ledger>(
     let Some((command, fields)) = parts_of(value) else {
         return Err(Cause::Stop(Stop::Stuck));
     };
-    match desk.publish(alloc, command, fields, facts, steps)? {
-        Posted::Taken => Ok(()),
-        Posted::TooLong => Err(Cause::Stop(Stop::Fault(FaultKind::TooLong))),
-        Posted::Refused => Err(Cause::Refused),
-    }
+    bring(alloc, facts, desk, steps, command, fields)
+}
+
+/// The rows that match.
+fn selected<F: FactBase>(alloc: Global, facts: &F, wanted: &Wanted) -> Answer<Vec<Row>>
+    requires keys { IsTrue (are_keys wanted.now.keys) }
+    ensures { (turns : ℕ) → GivesRows result turns (rows_matching (F.rows facts.now) (Done wanted.now turns)) }
+{
+    Ok(facts.select(alloc, wanted)?)
 }
 
 /// The rows that a `map` goes through.
@@ -69,23 +101,15 @@ fn rows_of<F: FactBase>(alloc: Global, facts: &F, found: Answer<Wanted>) -> Answ
     ensures { (turns : ℕ) (out : Out Wanted) → Gives found turns out → GivesRows result turns (rows_matching (F.rows facts.now) out) }
 {
     let wanted = found?;
-    Ok(facts.select(alloc, &wanted)?)
+    selected(alloc, facts, &wanted)
 }
 
-/// The body of the first arm that takes the value.
-fn arm_body<'b>(
-    known: &Known<'_>,
-    arms: &'b [Arm<Stmt>],
-    found: Answer<Value>,
-) -> Answer<&'b [Stmt]>
-    ensures gives { (turns : ℕ) (out : Out Value) → Gives found turns out → GivesBody result turns (body_of known.now arms.now out) }
-    ensures within { IfOk result (λ body. deeds_room body.now ≤ arms_room arms.now) }
+/// The value of a row, behind a turn that is taken.
+fn entering(turns: &mut u32, row: Row) -> Answer<Value>
+    ensures { Gives result turns.new (row_entering row turns.old) }
 {
-    let value = found?;
-    match first_body(known, &value, arms) {
-        Some(body) => Ok(body),
-        None => Err(Stop::Stuck),
-    }
+    take_turn(turns)?;
+    Ok(row_value(row)?)
 }
 
 /// Takes a turn, and names a row.
@@ -93,10 +117,8 @@ fn enter_row<'a>(env: &mut Env<'a>, turns: &mut u32, name: &'a Name, row: Row) -
     ensures gives { Leaves result env.new turns.new (row_entered name.now env.old row turns.old) }
     ensures kept { Keeps env.old env.new }
 {
-    take_turn(turns)?;
-    let value = row_value(row)?;
-    env.push(name, value)?;
-    Ok(())
+    let found = entering(turns, row);
+    let_in(env, name, found)
 }
 
 /// One statement. The names that it introduces stay.
@@ -152,7 +174,7 @@ fn act<'a, F: FactBase, P: Desk<F>, L: Ledger>(
         }
         Stmt::Match(e, arms) => {
             let found = value_of(alloc, known, &*facts, setting, LONGEST, env, turns, e);
-            let body = arm_body(known, arms.as_slice(), found)?;
+            let body = body_taken(known, arms.as_slice(), found)?;
             act_block(alloc, known, setting, facts, desk, steps, env, turns, body)
         }
         Stmt::Map(p, name, body) => {

@@ -1,14 +1,16 @@
 //! What statements come to, and what each small step of them makes of the value that it has.
 
-ghost use Rattle.std.specs.Prelude.{◌≡◌, ℕ, List, IfOk, length};
+ghost use Rattle.std.specs.Prelude.{◌≡◌, ◌≤◌, ℕ, List, IfOk, length};
 ghost use Rattle.base_bytes.specs.declared.value.Value.{Value};
 ghost use Rattle.policy_ast.specs.declared.finish.FinishStmt.{FinishStmt};
 ghost use Rattle.policy_expressions.specs.Answers.{Gives, Keeps};
+ghost use Rattle.policy_meaning.specs.Arms.{first_body};
 ghost use Rattle.policy_meaning.specs.Environments.{Env};
 ghost use Rattle.policy_meaning.specs.Finish.{Listing};
 ghost use Rattle.policy_meaning.specs.Functions.{no_listing};
-ghost use Rattle.policy_meaning.specs.Outcomes.{Out};
+ghost use Rattle.policy_meaning.specs.Outcomes.{Out, or_stuck};
 ghost use Rattle.policy_meaning.specs.Statements.{Ran, Run, within};
+ghost use Rattle.policy_eval.specs.working.ActionRooms.{arms_room, deeds_room};
 ghost use Rattle.policy_eval.specs.working.Endings.{Comes, GivesBody, Runs, goes_on};
 ghost use Rattle.policy_eval.specs.working.Rooms.{IsAmongArms};
 ghost use Rattle.policy_eval.specs.working.Steps.{body_of, checked_of, let_of, return_of, value_returned};
@@ -82,7 +84,19 @@ pub fn block_end<'a>(env: &mut Env<'a>, outside: usize, flow: Answer<Flow<'a>>) 
     flow
 }
 
-/// The body of the first arm that takes the value.
+/// The body of the first arm that takes a value.
+fn body_taking<'a>(known: &Known<'_>, arms: &'a [Arm<Stmt>], value: &Value) -> Answer<&'a [Stmt]>
+    ensures gives { (turns : ℕ) → GivesBody result turns (or_stuck (first_body known.now value.now arms.now) turns) }
+    ensures among { IfOk result (λ body. IsAmongArms body.now arms.now) }
+    ensures within { IfOk result (λ body. deeds_room body.now ≤ arms_room arms.now) }
+{
+    match first_body(known, value, arms) {
+        Some(body) => Ok(body),
+        None => Err(Stop::Stuck),
+    }
+}
+
+/// The body of the first arm that takes the value that was found.
 pub fn body_taken<'a>(
     known: &Known<'_>,
     arms: &'a [Arm<Stmt>],
@@ -90,10 +104,8 @@ pub fn body_taken<'a>(
 ) -> Answer<&'a [Stmt]>
     ensures gives { (turns : ℕ) (out : Out Value) → Gives found turns out → GivesBody result turns (body_of known.now arms.now out) }
     ensures among { IfOk result (λ body. IsAmongArms body.now arms.now) }
+    ensures within { IfOk result (λ body. deeds_room body.now ≤ arms_room arms.now) }
 {
     let value = found?;
-    match first_body(known, &value, arms) {
-        Some(body) => Ok(body),
-        None => Err(Stop::Stuck),
-    }
+    body_taking(known, arms, &value)
 }

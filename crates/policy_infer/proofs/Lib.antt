@@ -11,3 +11,4 @@ pub mod ListedFacts
 pub mod PatternFacts
 pub mod ReturnFacts
 pub mod ParameterFacts
+mod PartFacts

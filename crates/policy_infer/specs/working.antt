@@ -5,3 +5,4 @@ pub mod ScopeViews
 pub mod Behind
 pub mod Listed
 pub mod Returns
+pub mod Parts

@@ -7,9 +7,9 @@ ghost use Rattle.policy_rules.specs.working.Judging.{body_is, finish_stmts_are};
 ghost use Rattle.policy_infer.specs.working.Answers.{Allows};
 
 use crate::finish::finish_stmts;
+use crate::passing::Allowed;
 use crate::refusal::Refusal;
 use crate::scope::Scope;
-use crate::statement_rules::Allowed;
 use crate::statements::judge_all;
 use base_bytes::NoMemory;
 use policy_ast::{FinishStmt, Stmt};

@@ -11,8 +11,8 @@ ghost use Rattle.policy_infer.specs.working.Behind.{matches_of};
 ghost use Rattle.policy_infer.specs.working.Listed.{AreListed};
 
 use crate::forms::Typed;
+use crate::passing::{Allowed, allowed};
 use crate::pattern_set::PatternSet;
-use crate::statement_rules::{Allowed, allowed};
 use base_bytes::NoMemory;
 use policy_ast::{Arm, ArmPattern, Name, PatternLiteral, Stmt};
 use policy_heads::{Heads, fits};
@@ -196,6 +196,26 @@ fn arms_cover(heads: &Heads<'_>, t: &NamedType, arms: &[Arm<Stmt>], set: &Patter
     lists_all_values(heads, t, set)
 }
 
+/// The same, by the values that the arms list.
+fn values_are_taken(
+    alloc: Global,
+    heads: &Heads<'_>,
+    t: &NamedType,
+    arms: &[Arm<Stmt>],
+    values: &[&PatternLiteral],
+) -> Result<bool, NoMemory>
+    requires { map (λ p. p.now) values.now ≡ all_listed (map (λ a. a.pattern) arms.now) }
+    ensures { IfOk result (λ is. is ≡ are_arm_patterns heads.now t.now (map (λ a. a.pattern) arms.now)) }
+{
+    if !may_match(heads, t) || !all_fit(alloc, heads, values, t)? {
+        return Ok(false);
+    }
+    let Some(set) = distinct_values(alloc, values)? else {
+        return Ok(false);
+    };
+    Ok(arms_cover(heads, t, arms, &set))
+}
+
 /// The patterns of a `match` over a value of this type: their values fit it and are distinct, and one of the arms takes each value.
 fn are_arm_patterns(
     alloc: Global,
@@ -206,13 +226,7 @@ fn are_arm_patterns(
     ensures { IfOk result (λ is. is ≡ are_arm_patterns heads.now t.now (map (λ a. a.pattern) arms.now)) }
 {
     let values = all_listed(alloc, arms)?;
-    if !may_match(heads, t) || !all_fit(alloc, heads, values.as_slice(), t)? {
-        return Ok(false);
-    }
-    let Some(set) = distinct_values(alloc, values.as_slice())? else {
-        return Ok(false);
-    };
-    Ok(arms_cover(heads, t, arms, &set))
+    values_are_taken(alloc, heads, t, arms, values.as_slice())
 }
 
 /// The head of a `match`, by the type that was found of its expression.

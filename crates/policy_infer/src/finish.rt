@@ -12,11 +12,12 @@ ghost use Rattle.policy_infer.specs.working.Behind.{arguments_of, emits_of, fini
 
 use crate::expressions::{infer, infer_all, infer_binds};
 use crate::field_lists::{arguments_fit, in_any_order, in_declared_order, value_part};
-use crate::forms::Typed;
+use crate::forms::{Typed, struct_name};
+use crate::passing::{Allowed, allowed, both_hold};
 use crate::plain::{are_plain, are_plain_binds, are_plain_fields, is_plain};
 use crate::refusal::Refusal;
 use crate::scope::Scope;
-use crate::statement_rules::{Allowed, allowed, both_hold, is_pattern};
+use crate::statement_rules::is_pattern;
 use crate::uses::AllTyped;
 use base_bytes::NoMemory;
 use policy_ast::{Bind, Expr, FinishStmt, Free, Name, Pattern};
@@ -72,9 +73,7 @@ fn values_bound(alloc: Global, fact: FactHead<'_>, binds: &[Bind<Expr>], found: 
 fn emits_of(heads: &Heads<'_>, e: &Expr, found: Typed) -> Allowed
     ensures { (o : Option NamedType) → Judges found o → Allows result (emits_of heads.now e.now o) }
 {
-    let NamedType::Struct(name) = found? else {
-        return Err(Refusal::IllTyped);
-    };
+    let name = struct_name(found)?;
     let is_effect = heads.is_effect_named(&name);
     allowed(is_plain(e) && is_effect)
 }

@@ -1,17 +1,18 @@
 //! The type of each form of expression, by what was inferred of its parts. A part without a type is refused with its refusal.
 
-ghost use Rattle.std.specs.Prelude.{◌≡◌, ◌&&◌, List, Option, Some, option_map};
+ghost use Rattle.std.specs.Prelude.{◌≡◌, ◌&&◌, Bool, List, Option, Some, option_map};
 ghost use Rattle.policy_rules.specs.Expressions.{arithmetic_type, is_equality};
 ghost use Rattle.policy_rules.specs.Scopes.{is_kept_envelope, name_type};
 ghost use Rattle.policy_rules.specs.Heads.{literal_type};
 ghost use Rattle.policy_rules.specs.declared.types.NamedType.{NamedType};
 ghost use Rattle.policy_rules.specs.declared.types.NamedType.TheVariants as ty;
-ghost use Rattle.policy_rules.specs.working.Inference.{calculation_of, choice_of, compare_of, compared_type, field_of, inner_of, is_bool, is_int, logic_of, presence_of, unary_of};
-ghost use Rattle.policy_infer.specs.working.Answers.{Judges};
+ghost use Rattle.policy_rules.specs.working.Inference.{calculation_of, choice_of, compare_of, inner_of, logic_of, only_if, presence_of, unary_of};
+ghost use Rattle.policy_infer.specs.working.Answers.{Allows, Judges};
+ghost use Rattle.policy_infer.specs.working.Parts.{joined_of, struct_found};
 
+use crate::passing::{Allowed, both_hold, check_of, is_number, is_typed, only_where};
 use crate::refusal::Refusal;
 use crate::scope::Scope;
-use base_bytes::NoMemory;
 use policy_ast::{Arithmetic, Comparison, Literal, Name, Unary};
 use policy_heads::{Heads, copy_type, joined};
 use policy_rules::{Context, NamedType};
@@ -20,18 +21,6 @@ use std::alloc::Global;
 
 /// A type, or why there is none.
 pub type Typed = Result<NamedType, Refusal>;
-
-pub fn is_bool(t: &NamedType) -> bool
-    ensures { result ≡ is_bool t.now }
-{
-    matches!(t, NamedType::Bool)
-}
-
-pub fn is_int(t: &NamedType) -> bool
-    ensures { result ≡ is_int t.now }
-{
-    matches!(t, NamedType::Int)
-}
 
 /// The type inside an optional.
 fn inner_of(t: NamedType) -> Typed
@@ -43,17 +32,42 @@ fn inner_of(t: NamedType) -> Typed
     }
 }
 
+/// The name of a struct.
+pub fn struct_name(found: Typed) -> Result<Name, Refusal>
+    ensures { (o : Option NamedType) → Judges found o → Judges result (struct_found o) }
+{
+    match found? {
+        NamedType::Struct(name) => Ok(name),
+        _ => Err(Refusal::IllTyped),
+    }
+}
+
+/// The type of both, where one fits the other.
+fn joined_of(first: Typed, second: Typed) -> Typed
+    ensures { (o p : Option NamedType) → Judges first o → Judges second p → Judges result (joined_of o p) }
+{
+    let first = first?;
+    let second = second?;
+    match joined(first, second) {
+        Some(t) => Ok(t),
+        None => Err(Refusal::IllTyped),
+    }
+}
+
+/// A bool, where the test is passed.
+fn bool_where(passed: Allowed) -> Typed
+    ensures { (b : Bool) → Allows passed b → Judges result (only_if b (Some ty.Bool)) }
+{
+    passed?;
+    Ok(NamedType::Bool)
+}
+
 /// `&&` and `||`
 pub fn logic_of(first: Typed, second: Typed) -> Typed
     ensures { (o p : Option NamedType) → Judges first o → Judges second p → Judges result (logic_of o p) }
 {
-    let first = first?;
-    let second = second?;
-    if is_bool(&first) && is_bool(&second) {
-        Ok(NamedType::Bool)
-    } else {
-        Err(Refusal::IllTyped)
-    }
+    let first = check_of(first);
+    bool_where(both_hold(first, check_of(second)))
 }
 
 /// `==` and `!=`, where the others are orders.
@@ -63,28 +77,15 @@ fn is_equality(op: Comparison) -> bool
     matches!(op, Comparison::Equal | Comparison::NotEqual)
 }
 
-fn compared(op: Comparison, t: NamedType, u: NamedType) -> Typed
-    ensures { Judges result (compared_type (is_equality op) t u) }
-{
-    let is_allowed = if is_equality(op) {
-        joined(t, u).is_some()
-    } else {
-        is_int(&t) && is_int(&u)
-    };
-    if is_allowed {
-        Ok(NamedType::Bool)
-    } else {
-        Err(Refusal::IllTyped)
-    }
-}
-
 /// Comparisons.
 pub fn compare_of(op: Comparison, first: Typed, second: Typed) -> Typed
     ensures { (o p : Option NamedType) → Judges first o → Judges second p → Judges result (compare_of op o p) }
 {
-    let first = first?;
-    let second = second?;
-    compared(op, first, second)
+    if is_equality(op) {
+        return bool_where(is_typed(joined_of(first, second)));
+    }
+    let first = is_number(first);
+    bool_where(both_hold(first, is_number(second)))
 }
 
 /// `is Some` and `is None`
@@ -99,19 +100,14 @@ pub fn presence_of(found: Typed) -> Typed
 pub fn unary_of(op: Unary, found: Typed) -> Typed
     ensures { (o : Option NamedType) → Judges found o → Judges result (unary_of op o) }
 {
-    let t = found?;
-    if op != Unary::Not {
-        return inner_of(t);
-    }
-    if is_bool(&t) {
-        Ok(NamedType::Bool)
-    } else {
-        Err(Refusal::IllTyped)
+    match op {
+        Unary::Not => bool_where(check_of(found)),
+        Unary::Unwrap | Unary::CheckUnwrap => inner_of(found?),
     }
 }
 
-fn arithmetic_type(alloc: Global, op: Arithmetic) -> Result<NamedType, NoMemory>
-    ensures { (t : NamedType) → result ≡ Ok t → t ≡ arithmetic_type op }
+fn arithmetic_type(alloc: Global, op: Arithmetic) -> Typed
+    ensures { Judges result (Some (arithmetic_type op)) }
 {
     match op {
         Arithmetic::Add | Arithmetic::Sub => {
@@ -125,29 +121,17 @@ fn arithmetic_type(alloc: Global, op: Arithmetic) -> Result<NamedType, NoMemory>
 pub fn calculation_of(alloc: Global, op: Arithmetic, first: Typed, second: Typed) -> Typed
     ensures { (o p : Option NamedType) → Judges first o → Judges second p → Judges result (calculation_of op o p) }
 {
-    let first = first?;
-    let second = second?;
-    if is_int(&first) && is_int(&second) {
-        Ok(arithmetic_type(alloc, op)?)
-    } else {
-        Err(Refusal::IllTyped)
-    }
+    let first = is_number(first);
+    let passed = both_hold(first, is_number(second));
+    only_where(passed, arithmetic_type(alloc, op))
 }
 
 /// `if`, by its head and its two branches.
 pub fn choice_of(head: Typed, first: Typed, second: Typed) -> Typed
     ensures { (h o p : Option NamedType) → Judges head h → Judges first o → Judges second p → Judges result (choice_of h o p) }
 {
-    let head = head?;
-    let first = first?;
-    let second = second?;
-    if !is_bool(&head) {
-        return Err(Refusal::IllTyped);
-    }
-    match joined(first, second) {
-        Some(t) => Ok(t),
-        None => Err(Refusal::IllTyped),
-    }
+    let head = check_of(head);
+    only_where(head, joined_of(first, second))
 }
 
 /// `None`

@@ -8,6 +8,7 @@ mod field_lists;
 mod finish;
 mod foreign;
 mod forms;
+mod passing;
 mod pattern_set;
 mod plain;
 mod refusal;

@@ -9,9 +9,10 @@ ghost use Rattle.policy_infer.specs.working.Behind.{are_arms, are_stmts, behind,
 use crate::coverage::matches_of;
 use crate::expressions::infer;
 use crate::finish::finishes;
+use crate::passing::{Allowed, both_hold, check_of};
 use crate::refusal::Refusal;
 use crate::scope::Scope;
-use crate::statement_rules::{Allowed, begin_map, both_hold, check_of, publishes_of, returns_of};
+use crate::statement_rules::{begin_map, publishes_of, returns_of};
 use crate::uses::introduce;
 use policy_ast::{Arm, Else, IfStmt, Stmt};
 use policy_heads::Heads;

@@ -6,11 +6,13 @@ ghost use Rattle.policy_rules.specs.Scopes.{may_introduce};
 ghost use Rattle.policy_rules.specs.declared.types.NamedType.{NamedType};
 ghost use Rattle.policy_rules.specs.declared.types.NamedType.TheVariants as ty;
 ghost use Rattle.policy_rules.specs.working.Inference.{call_of, field_of, only_if, struct_literal_of, with_pattern};
-ghost use Rattle.policy_infer.specs.working.Answers.{Judges, Keeps, Leads};
+ghost use Rattle.policy_infer.specs.working.Answers.{Allows, Judges, Keeps, Leads};
+ghost use Rattle.policy_infer.specs.working.Parts.{field_type, is_row_of};
 ghost use Rattle.policy_infer.specs.working.Types.{introduced};
 
 use crate::field_lists::{arguments_fit, in_any_order, pattern_fits, type_in};
-use crate::forms::{Typed, is_kept_envelope};
+use crate::forms::{Typed, is_kept_envelope, struct_name};
+use crate::passing::{Allowed, allowed, only_where};
 use crate::refusal::Refusal;
 use crate::scope::Scope;
 use policy_ast::{Bind, Count, Expr, Name, Pattern};
@@ -43,14 +45,11 @@ pub fn with_gap_type(types: Items<Option<NamedType>>, found: Typed) -> GapsTyped
     Ok(types)
 }
 
-/// `.name`, of a struct that has such a field.
-pub fn field_of(alloc: Global, heads: &Heads<'_>, name: &Name, found: Typed) -> Typed
-    ensures { (o : Option NamedType) → Judges found o → Judges result (field_of heads.now name.now o) }
+/// The type of a struct's field.
+fn field_type(alloc: Global, heads: &Heads<'_>, struct_name: &Name, name: &Name) -> Typed
+    ensures { Judges result (field_type heads.now name.now struct_name.now) }
 {
-    let NamedType::Struct(struct_name) = found? else {
-        return Err(Refusal::IllTyped);
-    };
-    let Some(fields) = heads.struct_named(&struct_name) else {
+    let Some(fields) = heads.struct_named(struct_name) else {
         return Err(Refusal::IllTyped);
     };
     match type_in(fields, name) {
@@ -59,16 +58,52 @@ pub fn field_of(alloc: Global, heads: &Heads<'_>, name: &Name, found: Typed) -> 
     }
 }
 
-/// A call of a function.
-pub fn call_of(alloc: Global, heads: &Heads<'_>, called: &Name, found: AllTyped) -> Typed
-    ensures { (o : Option (List NamedType)) → Judges found o → Judges result (call_of heads.now called.now o) }
+/// `.name`, of a struct that has such a field.
+pub fn field_of(alloc: Global, heads: &Heads<'_>, name: &Name, found: Typed) -> Typed
+    ensures { (o : Option NamedType) → Judges found o → Judges result (field_of heads.now name.now o) }
+{
+    let struct_name = struct_name(found)?;
+    field_type(alloc, heads, &struct_name, name)
+}
+
+/// A call of a function, by the types of its arguments.
+fn call_type(alloc: Global, heads: &Heads<'_>, called: &Name, types: &[NamedType]) -> Typed
+    ensures { Judges result (call_of heads.now called.now (Some types.now)) }
 {
     let Some(function) = heads.function_named(called) else {
         return Err(Refusal::IllTyped);
     };
-    let types = found?;
-    if arguments_fit(types.as_slice(), function.parameters) {
+    if arguments_fit(types, function.parameters) {
         Ok(copy_type(alloc, function.result)?)
+    } else {
+        Err(Refusal::IllTyped)
+    }
+}
+
+/// A call of a function.
+pub fn call_of(alloc: Global, heads: &Heads<'_>, called: &Name, found: AllTyped) -> Typed
+    ensures { (o : Option (List NamedType)) → Judges found o → Judges result (call_of heads.now called.now o) }
+{
+    let types = found?;
+    call_type(alloc, heads, called, types.as_slice())
+}
+
+/// A struct literal, by the types of its values.
+fn struct_literal_type(
+    alloc: Global,
+    heads: &Heads<'_>,
+    name: &Name,
+    binds: &[Bind<Expr>],
+    types: &[NamedType],
+) -> Typed
+    requires { length types.now ≡ length binds.now }
+    ensures { Judges result (struct_literal_of heads.now name.now (map (λ b. b.name) binds.now) (Some types.now)) }
+{
+    let Some(fields) = heads.struct_named(name) else {
+        return Err(Refusal::IllTyped);
+    };
+    if in_any_order(alloc, fields, binds, types)? {
+        Ok(NamedType::Struct(name.copy(alloc)?))
     } else {
         Err(Refusal::IllTyped)
     }
@@ -85,15 +120,8 @@ pub fn struct_literal_of(
     requires { IfOk found (λ types. length types ≡ length binds.now) }
     ensures { (o : Option (List NamedType)) → Judges found o → Judges result (struct_literal_of heads.now name.now (map (λ b. b.name) binds.now) o) }
 {
-    let Some(fields) = heads.struct_named(name) else {
-        return Err(Refusal::IllTyped);
-    };
     let types = found?;
-    if in_any_order(alloc, fields, binds, types.as_slice())? {
-        Ok(NamedType::Struct(name.copy(alloc)?))
-    } else {
-        Err(Refusal::IllTyped)
-    }
+    struct_literal_type(alloc, heads, name, binds, types.as_slice())
 }
 
 /// The struct type of a fact's rows.
@@ -121,6 +149,33 @@ pub fn count_type(op: Count) -> NamedType
     }
 }
 
+/// Whether the pattern is one of its fact's rows.
+fn is_row(
+    alloc: Global,
+    heads: &Heads<'_>,
+    p: &Pattern<Expr>,
+    keys: &GapsTyped,
+    values: &GapsTyped,
+) -> Allowed
+    requires keys { IfOk keys.now (λ types. length types ≡ length p.now.keys) }
+    requires values { IfOk values.now (λ types. length types ≡ length (value_part p.now.values)) }
+    ensures { (ks vs : Option (List (Option NamedType))) → Judges keys.now ks → Judges values.now vs
+        → Allows result (is_row_of heads.now p.now.fact (map (λ f. f.name) p.now.keys) ks (map (λ f. f.name) (value_part p.now.values)) vs) }
+{
+    let Some(fact) = heads.fact_named(&p.fact) else {
+        return Err(Refusal::IllTyped);
+    };
+    let keys = match keys {
+        Ok(keys) => keys.as_slice(),
+        Err(refusal) => return Err(*refusal),
+    };
+    let values = match values {
+        Ok(values) => values.as_slice(),
+        Err(refusal) => return Err(*refusal),
+    };
+    allowed(pattern_fits(alloc, fact, p, keys, values)?)
+}
+
 /// The type, where the pattern is one of its fact's rows.
 pub fn pattern_type(
     alloc: Global,
@@ -135,16 +190,7 @@ pub fn pattern_type(
     ensures { (ks vs : Option (List (Option NamedType))) (u : NamedType) → Judges keys ks → Judges values vs → Judges t (Some u)
         → Judges result (with_pattern heads.now p.now.fact (map (λ f. f.name) p.now.keys) ks (map (λ f. f.name) (value_part p.now.values)) vs u) }
 {
-    let Some(fact) = heads.fact_named(&p.fact) else {
-        return Err(Refusal::IllTyped);
-    };
-    let keys = keys?;
-    let values = values?;
-    if pattern_fits(alloc, fact, p, keys.as_slice(), values.as_slice())? {
-        t
-    } else {
-        Err(Refusal::IllTyped)
-    }
+    only_where(is_row(alloc, heads, p, &keys, &values), t)
 }
 
 /// The type, where the number is at least 1.

@@ -12,6 +12,9 @@ use Rattle.policy_meaning.specs.Outcomes.{Check, Fault, Stuck, Out, Done}
 use Rattle.policy_meaning.specs.Typed.{AreTyped}
 use Rattle.policy_meaning.specs.declared.ends.ActionEnd.{ActionEnd}
 use Rattle.policy_meaning.specs.declared.ends.ActionEnd.TheVariants as end
+use Rattle.policy_meaning.specs.declared.ends.FaultKind.TheVariants as fault
+use Rattle.policy_meaning.specs.declared.ends.Posted.{Posted}
+use Rattle.policy_meaning.specs.declared.ends.Posted.TheVariants as posted
 use Rattle.policy_types.specs.ActsWell.{LeaveTyped, MayStop}
 use Rattle.policy_eval.specs.declared.cause.Cause.{Cause}
 use Rattle.policy_eval.specs.declared.cause.Cause.TheVariants as cause
@@ -57,6 +60,12 @@ halted stop.NoMemory = None
 abbrev pub reason : Cause → Option Stop
 reason (cause.Stop why) = halted why
 reason cause.Refused = Some IsRefused
+
+-- What the desk's answer comes to, as a part of an action.
+abbrev pub posted_as : Posted → Result (Unit {0}) Cause
+posted_as posted.Taken = Ok tt
+posted_as posted.TooLong = Err (cause.Stop (stop.Fault fault.TooLong))
+posted_as posted.Refused = Err cause.Refused
 
 -- What an evaluation gave, as a part of an action.
 abbrev pub caused : {A : Type 0} → Result A Halted → Result A Cause

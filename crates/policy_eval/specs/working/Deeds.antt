@@ -70,3 +70,7 @@ rows_matching rows out = out >>= λ q turns. Done (selected q rows) turns
 -- a row of a `map` takes a turn, and has a name
 abbrev pub row_entered : Name → Env → Row → ℕ → Out Env
 row_entered name env row turns = with_turn (λ turns. Done (with_value env name (row_value row)) turns) turns
+
+-- its value, behind the turn
+abbrev pub row_entering : Row → ℕ → Out Value
+row_entering row turns = with_turn (λ turns. Done (row_value row) turns) turns

@@ -384,3 +384,105 @@ act_rows-returns-clause-acts g t c =
 pub act_rows-returns-clause-kept : goal.act_rows-returns-clause-kept
 act_rows-returns-clause-kept g t c =
     c.loop-row.invariant.so_far.same
+
+pub act-returns-in-Let-clause-keeps : goal.act-returns-in-Let-clause-keeps
+act-returns-in-Let-clause-keeps g t c = g.met.P.Desk.keeps_itself c.args.desk.now
+
+pub act-returns-in-Let-clause-policy : goal.act-returns-in-Let-clause-policy
+act-returns-in-Let-clause-policy g t c = refl
+
+pub act-returns-in-Check-clause-keeps : goal.act-returns-in-Check-clause-keeps
+act-returns-in-Check-clause-keeps g t c = g.met.P.Desk.keeps_itself c.args.desk.now
+
+pub act-returns-in-Check-clause-policy : goal.act-returns-in-Check-clause-policy
+act-returns-in-Check-clause-policy g t c = refl
+
+pub act-returns-in_err-holds-in-If-clause-keeps : goal.act-returns-in_err-holds-in-If-clause-keeps
+act-returns-in_err-holds-in-If-clause-keeps g t c = g.met.P.Desk.keeps_itself c.args.desk.now
+
+pub act-returns-in_err-holds-in-If-clause-policy : goal.act-returns-in_err-holds-in-If-clause-policy
+act-returns-in_err-holds-in-If-clause-policy g t c = refl
+
+pub act-returns-in_err-body-in-Match-clause-keeps : goal.act-returns-in_err-body-in-Match-clause-keeps
+act-returns-in_err-body-in-Match-clause-keeps g t c = g.met.P.Desk.keeps_itself c.args.desk.now
+
+pub act-returns-in_err-body-in-Match-clause-policy : goal.act-returns-in_err-body-in-Match-clause-policy
+act-returns-in_err-body-in-Match-clause-policy g t c = refl
+
+pub act-returns-in_err-rows-in-Map-clause-keeps : goal.act-returns-in_err-rows-in-Map-clause-keeps
+act-returns-in_err-rows-in-Map-clause-keeps g t c = g.met.P.Desk.keeps_itself c.args.desk.now
+
+pub act-returns-in_err-rows-in-Map-clause-policy : goal.act-returns-in_err-rows-in-Map-clause-policy
+act-returns-in_err-rows-in-Map-clause-policy g t c = refl
+
+pub act-returns-in_err-value-in-Publish-clause-keeps : goal.act-returns-in_err-value-in-Publish-clause-keeps
+act-returns-in_err-value-in-Publish-clause-keeps g t c = g.met.P.Desk.keeps_itself c.args.desk.now
+
+pub act-returns-in_err-value-in-Publish-clause-policy : goal.act-returns-in_err-value-in-Publish-clause-policy
+act-returns-in_err-value-in-Publish-clause-policy g t c = refl
+
+pub act-returns-in-Finish-clause-keeps : goal.act-returns-in-Finish-clause-keeps
+act-returns-in-Finish-clause-keeps g t c = g.met.P.Desk.keeps_itself c.args.desk.now
+
+pub act-returns-in-Finish-clause-policy : goal.act-returns-in-Finish-clause-policy
+act-returns-in-Finish-clause-policy g t c = refl
+
+pub act-returns-in-Return-clause-keeps : goal.act-returns-in-Return-clause-keeps
+act-returns-in-Return-clause-keeps g t c = g.met.P.Desk.keeps_itself c.args.desk.now
+
+pub act-returns-in-Return-clause-policy : goal.act-returns-in-Return-clause-policy
+act-returns-in-Return-clause-policy g t c = refl
+
+pub act_else-returns-in-None-clause-keeps : goal.act_else-returns-in-None-clause-keeps
+act_else-returns-in-None-clause-keeps g t c = g.met.P.Desk.keeps_itself c.args.desk.now
+
+pub act_else-returns-in-None-clause-policy : goal.act_else-returns-in-None-clause-policy
+act_else-returns-in-None-clause-policy g t c = refl
+
+pub act-returns-then-holds-clause-keeps : goal.act-returns-then-holds-clause-keeps
+act-returns-then-holds-clause-keeps g t c = c.act_block.ensures.keeps
+
+pub act-returns-then-holds-clause-policy : goal.act-returns-then-holds-clause-policy
+act-returns-then-holds-clause-policy g t c = c.act_block.ensures.policy
+
+pub act-returns-else-holds-clause-keeps : goal.act-returns-else-holds-clause-keeps
+act-returns-else-holds-clause-keeps g t c = c.act_else.ensures.keeps
+
+pub act-returns-else-holds-clause-policy : goal.act-returns-else-holds-clause-policy
+act-returns-else-holds-clause-policy g t c = c.act_else.ensures.policy
+
+pub act-returns-in_ok-body-in-Match-clause-keeps : goal.act-returns-in_ok-body-in-Match-clause-keeps
+act-returns-in_ok-body-in-Match-clause-keeps g t c = c.act_block-in-Match.ensures.keeps
+
+pub act-returns-in_ok-body-in-Match-clause-policy : goal.act-returns-in_ok-body-in-Match-clause-policy
+act-returns-in_ok-body-in-Match-clause-policy g t c = c.act_block-in-Match.ensures.policy
+
+pub act-returns-in_ok-rows-in-Map-clause-keeps : goal.act-returns-in_ok-rows-in-Map-clause-keeps
+act-returns-in_ok-rows-in-Map-clause-keeps g t c = c.act_rows.ensures.keeps
+
+pub act-returns-in_ok-rows-in-Map-clause-policy : goal.act-returns-in_ok-rows-in-Map-clause-policy
+act-returns-in_ok-rows-in-Map-clause-policy g t c = c.act_rows.ensures.policy
+
+pub act-returns-in_ok-value-in-Publish-clause-keeps : goal.act-returns-in_ok-value-in-Publish-clause-keeps
+act-returns-in_ok-value-in-Publish-clause-keeps g t c = c.publish.ensures.keeps
+
+pub act-returns-in_ok-value-in-Publish-clause-policy : goal.act-returns-in_ok-value-in-Publish-clause-policy
+act-returns-in_ok-value-in-Publish-clause-policy g t c = c.publish.ensures.policy
+
+pub act_else-returns-in-Some-Block-clause-keeps : goal.act_else-returns-in-Some-Block-clause-keeps
+act_else-returns-in-Some-Block-clause-keeps g t c = c.act_block.ensures.keeps
+
+pub act_else-returns-in-Some-Block-clause-policy : goal.act_else-returns-in-Some-Block-clause-policy
+act_else-returns-in-Some-Block-clause-policy g t c = c.act_block.ensures.policy
+
+pub act_else-returns-in_err-act-in-Some-If-clause-keeps : goal.act_else-returns-in_err-act-in-Some-If-clause-keeps
+act_else-returns-in_err-act-in-Some-If-clause-keeps g t c = c.act.ensures.keeps
+
+pub act_else-returns-in_err-act-in-Some-If-clause-policy : goal.act_else-returns-in_err-act-in-Some-If-clause-policy
+act_else-returns-in_err-act-in-Some-If-clause-policy g t c = c.act.ensures.policy
+
+pub act_else-returns-in_ok-act-in-Some-If-clause-keeps : goal.act_else-returns-in_ok-act-in-Some-If-clause-keeps
+act_else-returns-in_ok-act-in-Some-If-clause-keeps g t c = c.act.ensures.keeps
+
+pub act_else-returns-in_ok-act-in-Some-If-clause-policy : goal.act_else-returns-in_ok-act-in-Some-If-clause-policy
+act_else-returns-in_ok-act-in-Some-If-clause-policy g t c = c.act.ensures.policy
