@@ -15,9 +15,9 @@ use crate::if_expressions::if_expression;
 use crate::operators;
 use crate::parts::{Parsed, dots, higher, node};
 use crate::primaries::primary;
-use crate::tokens::{after, after_word, expect_word};
+use crate::tokens::{after_word, expect_word};
 use crate::unparsed::Unparsed;
-use policy_ast::{Expr, Name, Part, Token, symbols};
+use policy_ast::{Expr, Name, Part, Token};
 use sqlite_items::Boxed;
 use std::alloc::Global;
 
@@ -102,7 +102,7 @@ fn or_more<'a>(
     let mut whole = first;
     let mut rest = tokens;
     let mut turns = tokens.len();
-    while let Some(behind) = after(symbols::OR, rest) {
+    while let Some(behind) = operators::after_or(rest) {
         if turns == 0 {
             return Err(Unparsed::NoMatch);
         }
@@ -147,7 +147,7 @@ fn and_more<'a>(
     let mut whole = first;
     let mut rest = tokens;
     let mut turns = tokens.len();
-    while let Some(behind) = after(symbols::AND, rest) {
+    while let Some(behind) = operators::after_and(rest) {
         if turns == 0 {
             return Err(Unparsed::NoMatch);
         }

@@ -1,15 +1,29 @@
 //! Operators, and the words that are used like them.
 
 ghost use Rattle.std.specs.Prelude.{◌≡◌, option_map};
-ghost use Rattle.policy_ast.specs.grammar.Fixed.{arithmetic_token, comparison_token, count_token, presence_token, unary_token};
+ghost use Rattle.policy_ast.specs.grammar.Fixed.{and, arithmetic_token, comparison_token, count_token, or, presence_token, unary_token};
 ghost use Rattle.policy_ast.specs.grammar.Policies.{kinds};
-ghost use Rattle.policy_ast.proofs.grammar.Reading.{operator};
+ghost use Rattle.policy_ast.proofs.grammar.Reading.{after, operator};
 ghost use Rattle.policy_ast.proofs.grammar.ReadingExpressions.{arithmetics, comparisons, counts, presences, signs};
-ghost use Rattle.policy_parse.specs.working.Reads.{Reads, operator_read};
+ghost use Rattle.policy_parse.specs.working.Reads.{Reads, operator_read, token_read};
 
 use crate::tokens::{after, after_word, expect_word};
 use crate::unparsed::Unparsed;
 use policy_ast::{Arithmetic, Comparison, Count, Presence, Token, Unary, symbols};
+
+/// The tokens behind `||`, where it is the first.
+pub fn after_or(tokens: &[Token]) -> Option<&[Token]>
+    ensures { option_map token_read result ≡ after or (kinds tokens.now) }
+{
+    after(symbols::OR, tokens)
+}
+
+/// The tokens behind `&&`, where it is the first.
+pub fn after_and(tokens: &[Token]) -> Option<&[Token]>
+    ensures { option_map token_read result ≡ after and (kinds tokens.now) }
+{
+    after(symbols::AND, tokens)
+}
 
 /// The comparison that is the first token, and the tokens behind it.
 pub fn comparison_operator(tokens: &[Token]) -> Option<(Comparison, &[Token])>

@@ -1,8 +1,9 @@
 //! Statements. Each function gives what the tokens begin with and the tokens behind it, and refuses where they don't
 //! begin so. `depth` is how high the node may be, and `limit` how high parts may be that are no nodes of their own.
 
-ghost use Rattle.std.specs.Prelude.{◌<◌, ◌-◌, suc};
+ghost use Rattle.std.specs.Prelude.{◌<◌, ◌-◌, suc, true};
 ghost use Rattle.policy_ast.specs.declared.statement.Stmt.TheVariants.{Let};
+ghost use Rattle.policy_ast.specs.grammar.Expressions.{whole};
 ghost use Rattle.policy_ast.specs.grammar.Fixed.{close_brace};
 ghost use Rattle.policy_ast.specs.grammar.Policies.{kinds};
 ghost use Rattle.policy_ast.specs.grammar.Statements.{if_statement, statement};
@@ -19,7 +20,7 @@ use crate::parts::{Parsed, appended, higher, node, nothing_yet, unboxed};
 use crate::patterns::pattern;
 use crate::tokens::{after, after_word, expect, expect_word, name};
 use crate::unparsed::Unparsed;
-use policy_ast::{Arm, Else, IfStmt, Part, Stmt, Token, symbols};
+use policy_ast::{Arm, Else, Expr, IfStmt, Part, Stmt, Token, symbols};
 use sqlite_items::{Boxed, Items};
 use std::alloc::Global;
 
@@ -99,13 +100,20 @@ fn let_stmt<'a>(alloc: Global, depth: usize, tokens: &'a [Token]) -> Parsed<'a, 
     Ok((Part { tree, height }, rest))
 }
 
+/// An expression that a block or arms follow.
+fn head<'a>(alloc: Global, limit: usize, tokens: &'a [Token]) -> Parsed<'a, Boxed<Expr>>
+    ensures { Reads part_read result (read_expr limit (whole true) (kinds tokens.now)) }
+{
+    expression(alloc, limit, true, tokens)
+}
+
 /// What follows `if`
 #[cycle(stmt)]
 fn if_stmt<'a>(alloc: Global, depth: usize, tokens: &'a [Token]) -> Parsed<'a, Boxed<Stmt>>
     requires { 0 < depth }
     ensures { Reads part_read result (if_over (read_stmt (depth - 1)) (depth - 1) (kinds tokens.now)) }
 {
-    let (head, rest) = expression(alloc, depth - 1, true, tokens)?;
+    let (head, rest) = head(alloc, depth - 1, tokens)?;
     let (then, rest) = block(alloc, depth - 1, rest)?;
     let Some(behind) = after_word("else", rest) else {
         let height = higher(head.height, then.height);
@@ -177,7 +185,7 @@ fn match_stmt<'a>(alloc: Global, depth: usize, tokens: &'a [Token]) -> Parsed<'a
     requires { 0 < depth }
     ensures { Reads part_read result (match_over (read_stmt (depth - 1)) (depth - 1) (kinds tokens.now)) }
 {
-    let (head, rest) = expression(alloc, depth - 1, true, tokens)?;
+    let (head, rest) = head(alloc, depth - 1, tokens)?;
     let rest = expect(symbols::OPEN_BRACE, rest)?;
     let (found, rest) = arms(alloc, depth - 1, rest)?;
     let height = higher(head.height, found.height);
