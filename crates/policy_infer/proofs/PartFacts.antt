@@ -1,5 +1,5 @@
 -- The types of forms, by tests of their parts.
-use Rattle.std.proofs.Common.{◌≡◌, Bool, true, false, ◌&&◌, List, Option, Some, None, option_map, refl, sym, ap, subst}
+use Rattle.std.proofs.Common.{◌≡◌, Bool, true, false, ◌&&◌, List, Option, Some, None, option_map, refl, sym}
 use Rattle.std.specs.Option.{is_some}
 use Rattle.policy_infer.specs.working.Behind.{is_bool_of}
 use Rattle.policy_infer.specs.working.Parts.{field_type, is_number_of, is_row_of, joined_of, struct_found}

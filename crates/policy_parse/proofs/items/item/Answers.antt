@@ -1,4 +1,4 @@
-use Rattle.std.proofs.Common.{length, sym, arith}
+use Rattle.std.proofs.Common.{sym, arith}
 use Rattle.policy_ast.specs.grammar.Fixed.{word}
 use Rattle.policy_ast.specs.grammar.Policies.{kinds}
 use Rattle.policy_parse.proofs.Shorter.{after_shorter}
