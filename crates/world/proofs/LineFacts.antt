@@ -1,5 +1,5 @@
 -- A line runs in a world where it runs on its replicas and messages; and what it keeps.
-use Rattle.std.proofs.Common.{rules, arith, nat_lt, ◌<◌, ◌≡◌, inl, inr, ℕ, ◌+◌, Bool, true, List, [], ◌∷◌, ◌++◌, length, map, Option, Result, Ok, Err, IfErr, OnOk, refl, sym, ap, subst, ◌∙◌, length-append, not, false, ◌||◌}
+use Rattle.std.proofs.Common.{rules, arith, nat_lt, ◌<◌, ◌≡◌, ◌⊎◌, inl, inr, ℕ, ◌+◌, Bool, true, List, [], ◌∷◌, ◌++◌, length, map, Option, Result, Ok, Err, IfErr, OnOk, refl, sym, ap, subst, ◌∙◌, length-append, not, false, ◌||◌}
 use Rattle.std.proofs.lemmas.Bool.{and_parts}
 use Rattle.std.proofs.lemmas.Bool.Decides.{nat_tests}
 use Rattle.journal.specs.declared.fault.OpenFault.{OpenFault}
@@ -11,7 +11,7 @@ use Rattle.script.specs.declared.line.Line.{Line}
 use Rattle.script.specs.declared.line.Line.TheVariants as line
 use Rattle.script_texts.specs.Bytes.{Bytes}
 use Rattle.world.specs.Lines.{KeepsRest, Runs, Tags, may_run}
-use Rattle.world.specs.Stops.{Acts, AreAsHonest, HasCause, IsFront, IsSteady, LeavesFront, NoneFell, OwnFalls, RefusesJournal, Reopens, RestartWords, RunsOrStops, SomeOf, SomeRose, changed_name}
+use Rattle.world.specs.Stops.{Acts, AreAsHonest, HasCause, HasNumber, IsFront, IsSteady, LeavesFront, NoneFell, OwnFalls, RefusesJournal, Reopens, RestartWords, RunsOrStops, SomeOf, SomeRose, changed_name}
 use Rattle.world.specs.Worlds.{AreUp, Named, Site, declared, disks_of, site_of, with_message}
 use Rattle.world.specs.declared.said.Said.{Said}
 use Rattle.world.specs.declared.stop.RunStop.{RunStop}
@@ -60,6 +60,23 @@ showing_count d (line.Act a f args) is = absurd cc
 showing_count d (line.Sync a b) is = absurd cc
 showing_count d (line.Take a n) is = absurd cc
 showing_count d (line.Restart a) is = absurd cc
+
+numbered : (one : Line) → is_making one ≡ true → HasNumber one
+numbered (line.Ask a) is = tt
+numbered (line.Next a n) is = tt
+numbered (line.Answer a n) is = tt
+numbered (line.Inject bytes) is = tt
+numbered (line.Replica a) is = absurd cc
+numbered (line.Facts a) is = absurd cc
+numbered (line.Effects a) is = absurd cc
+numbered (line.Graph a) is = absurd cc
+numbered line.Blank is = absurd cc
+numbered (line.Init a f args) is = absurd cc
+numbered (line.Join a b) is = absurd cc
+numbered (line.Act a f args) is = absurd cc
+numbered (line.Sync a b) is = absurd cc
+numbered (line.Take a n) is = absurd cc
+numbered (line.Restart a) is = absurd cc
 
 quiet_or : (m s : Bool) → s ≡ true → not (m || s) ≡ false
 quiet_or true s is = refl
@@ -174,6 +191,7 @@ module _ {D : Type 0} (tags : Tags) where
             disks = handles_more sense tags.good faults (Acts one × Rose before now) (Acts one × Rose before now) (changed_name one) (RefusesJournal sense tags.good replicas one) (RefusesJournal sense tags.good replicas one)
                 (FrontOf (RunsIn tags messages one) (SomeOf tags one) replicas) (IsFront tags old one) replicas result after (λ x. x) (λ n c x. x) (λ l there. front_site old one l there) disks;
             counted = counted_by result;
+            others = inl refl;
             spare = refl;
           };
         }
@@ -193,11 +211,12 @@ module _ {D : Type 0} (tags : Tags) where
 
     -- where the replicas stay
     still_passes : {T : Type 0} (old : Site D) (one : Line) (result : Result T RunStop) (new : Site D) → AreUp old.replicas → new.replicas ≡ old.replicas → new.spare ≡ old.spare → IfErr result (λ s. s ≡ stop.NoMemory)
-        → OnOk result (length new.messages ≡ (with_line (declared old) one).messages) → Passes tags sense faults before now old one result new
-    still_passes {T = T} old one result new up same spare none counted = record {
+        → OnOk result (length new.messages ≡ (with_line (declared old) one).messages) → (new.messages ≡ old.messages) ⊎ HasNumber one → Passes tags sense faults before now old one result new
+    still_passes {T = T} old one result new up same spare none counted others = record {
       disks = subst (λ (l : List (Named D)). Handles sense tags.good faults (Acts one × Rose before now) (changed_name one) (RefusesJournal sense tags.good old.replicas one) (IsFront tags old one) old.replicas result l) (sym same)
           (handles_still sense tags.good (IsFront tags old one) faults (Acts one × Rose before now) (changed_name one) (RefusesJournal sense tags.good old.replicas one) old.replicas result up (inl refl) none);
       counted = counted;
+      others = others;
       spare = spare;
     }
 
@@ -224,29 +243,29 @@ module _ {D : Type 0} (tags : Tags) where
 
     -- one that lacks memory, and leaves all
     pub lacks_on : (old : Site D) (one : Line) (s : RunStop) → is_changing one ≡ false → AreUp old.replicas → s ≡ stop.NoMemory → RunsOn tags sense faults before now old one (Err s) old
-    lacks_on old one s quiet up none = record { reopens = quiet_opens old.replicas old.replicas one (Err s) quiet; goes = λ steady. still_front old one; passes = still_passes old one (Err s) old up refl refl none tt }
+    lacks_on old one s quiet up none = record { reopens = quiet_opens old.replicas old.replicas one (Err s) quiet; goes = λ steady. still_front old one; passes = still_passes old one (Err s) old up refl refl none tt (inl refl) }
 
     -- one that makes a message
-    pub made_on : (old : Site D) (one : Line) (said : Said) (result : Result Bytes RunStop) (new : Site D) → is_changing one ≡ false → AreUp old.replicas → SaysIn (site_of old.replicas old.messages) one said.text said.message
+    pub made_on : (old : Site D) (one : Line) (said : Said) (result : Result Bytes RunStop) (new : Site D) → is_changing one ≡ false → HasNumber one → AreUp old.replicas → SaysIn (site_of old.replicas old.messages) one said.text said.message
         → Keeping old said result new → RunsOn tags sense faults before now old one result new
-    made_on old one said (Ok text) new quiet up says (same, set) =
+    made_on old one said (Ok text) new quiet numbered up says (same, set) =
         let runs : Runs tags old one text new = subst (λ t. Runs tags old one t new) (sym same) (subst (Runs tags old one said.text) (sym set) (made_runs old one said says)) in
         record {
           reopens = quiet_opens old.replicas new.replicas one (Ok text) quiet;
           goes = λ steady. runs;
-          passes = still_passes old one (Ok text) new up (ap (λ (x : Site D). x.replicas) set) (ap (λ (x : Site D). x.spare) set) tt (runs_count old one text new runs);
+          passes = still_passes old one (Ok text) new up (ap (λ (x : Site D). x.replicas) set) (ap (λ (x : Site D). x.spare) set) tt (runs_count old one text new runs) (inr numbered);
         }
-    made_on old one said (Err s) new quiet up says (none, set) = subst (RunsOn tags sense faults before now old one (Err s)) (sym set) (lacks_on old one s quiet up none)
+    made_on old one said (Err s) new quiet numbered up says (none, set) = subst (RunsOn tags sense faults before now old one (Err s)) (sym set) (lacks_on old one s quiet up none)
 
     -- the same of what its function says
     pub making_on : (old : Site D) (one : Line) (said : Said) (result : Result Bytes RunStop) (new : Site D) → is_making one ≡ true → AreUp old.replicas → Making (SaysIn (site_of old.replicas old.messages) one) (Ok said)
         → Keeping old said result new → RunsOn tags sense faults before now old one result new
-    making_on old one said result new making up says keeps = made_on old one said result new (making_quiet one making) up says keeps
+    making_on old one said result new making up says keeps = made_on old one said result new (making_quiet one making) (numbered one making) up says keeps
 
     -- one that tells what is held
     pub shown_on : (old : Site D) (one : Line) (result : Result Bytes RunStop) → AreUp old.replicas → is_showing one ≡ true → Showing (ShowsIn old.replicas one) result → RunsOn tags sense faults before now old one result old
     shown_on old one (Ok text) up showing says =
-        record { reopens = quiet_opens old.replicas old.replicas one (Ok text) (showing_quiet one showing); goes = λ steady. shown_runs old one text says; passes = still_passes old one (Ok text) old up refl refl tt (showing_count (declared old) one showing) }
+        record { reopens = quiet_opens old.replicas old.replicas one (Ok text) (showing_quiet one showing); goes = λ steady. shown_runs old one text says; passes = still_passes old one (Ok text) old up refl refl tt (showing_count (declared old) one showing) (inl refl) }
     shown_on old one (Err s) up showing none = lacks_on old one s (showing_quiet one showing) up none
 
     -- ---- its text
@@ -258,6 +277,7 @@ module _ {D : Type 0} (tags : Tags) where
       passes = record {
         disks = record { later = on.passes.disks.later; up = tt; cause = on.passes.disks.cause; crash = on.passes.disks.crash };
         counted = tt;
+        others = on.passes.others;
         spare = on.passes.spare;
       };
     }
@@ -296,6 +316,7 @@ module _ {D : Type 0} (tags : Tags) where
           crash = on.passes.disks.crash;
         };
         counted = tt;
+        others = on.passes.others;
         spare = on.passes.spare;
       };
     }
@@ -308,6 +329,7 @@ module _ {D : Type 0} (tags : Tags) where
       passes = record {
         disks = record { later = on.passes.disks.later; up = on.passes.disks.up; cause = tt; crash = on.passes.disks.crash };
         counted = on.passes.counted;
+        others = on.passes.others;
         spare = on.passes.spare;
       };
     }

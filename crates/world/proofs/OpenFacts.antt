@@ -15,7 +15,7 @@ use Rattle.replica.specs.Disks.{AreSoundFronts, OpensWhole, Sense}
 use Rattle.replica.specs.Fronts.{front_of}
 use Rattle.replica.specs.Kept.{Kept}
 use Rattle.script_texts.specs.Bytes.{Bytes}
-use Rattle.world.specs.Crashes.{AreOpened, AreSafe, IsRefused, IsWhyNot, IsOpenedOn, OpenWhole, RefusesFirst, criteria}
+use Rattle.world.specs.Crashes.{AreOpened, AreSafe, FailsFirst, IsRefused, IsWhyNot, IsOpenedOn, OpenWhole, RefusesFirst, criteria}
 use Rattle.world.specs.Stops.{AreAsHonest, HasCause, NoneFell, SomeRose}
 use Rattle.world.specs.Worlds.{AreUp, EachPair, Named, kept_of}
 use Rattle.world.specs.declared.stop.RunStop.{RunStop}
@@ -168,6 +168,18 @@ module _ {D : Type 0} where
       refuses_behind (n ∷ ns) (d ∷ ds) [] name rest disk left told cause opened same is refused = absurd opened
       refuses_behind (n ∷ ns) (d ∷ ds) (r ∷ rs) name rest disk left told cause opened same is refused =
           inr ((front_of r.kept.held, opened.2), refuses_behind ns ds rs name rest disk left told cause opened.3 (omega (arith, same)) is refused)
+
+      -- behind those that are opened one fails
+      fails_behind : (faults : D → ℕ) (names : List Bytes) (disks : List D) (replicas : List (Named D)) (name : Bytes) (rest : List Bytes) (disk back : D) (left : List D)
+          → AreOpened sense good policy digest names disks replicas → length disks ≡ length names → Rose (faults disk) (faults back)
+          → FailsFirst sense good policy digest faults (names ++ name ∷ rest) (disks ++ disk ∷ left) (map (λ r. r.kept.disk) replicas ++ back ∷ left)
+      fails_behind faults [] [] [] name rest disk back left opened same rose = inl (rose, refl)
+      fails_behind faults [] [] (r ∷ rs) name rest disk back left opened same rose = absurd opened
+      fails_behind faults [] (d ∷ ds) rs name rest disk back left opened same rose = absurd (omega (arith, same))
+      fails_behind faults (n ∷ ns) [] rs name rest disk back left opened same rose = absurd (omega (arith, same))
+      fails_behind faults (n ∷ ns) (d ∷ ds) [] name rest disk back left opened same rose = absurd opened
+      fails_behind faults (n ∷ ns) (d ∷ ds) (r ∷ rs) name rest disk back left opened same rose =
+          inr ((front_of r.kept.held, opened.2), fails_behind faults ns ds rs name rest disk back left opened.3 (omega (arith, same)) rose)
 
 -- ---- the loop
 
@@ -333,6 +345,11 @@ module _ {D : Type 0} (sense : Sense D) (good : List ℕ → List ℕ → List �
         why_not = subst (λ ns. IsWhyNot sense good policy digest ns disks why) so.named
             (subst (λ ds. IsWhyNot sense good policy digest (so.before ++ name ∷ rest) ds why) so.taken
             (why_not policy so.before so.firsts replicas name rest disk left why (Rose (faults disk) (faults back)) told.opened so.paired isnt.cause));
+        failed = λ is.
+            subst (λ ns. FailsFirst sense good policy digest faults ns disks (map (λ r. r.kept.disk) replicas ++ back ∷ left)) so.named
+            (subst (λ ds. FailsFirst sense good policy digest faults (so.before ++ name ∷ rest) ds (map (λ r. r.kept.disk) replicas ++ back ∷ left)) so.taken
+            (fails_behind sense good policy digest faults so.before so.firsts replicas name rest disk back left told.opened so.paired
+            (subst (IsStopFor ⊥ (Rose (faults disk) (faults back)) (λ told cause. (told ≡ name) × IsRefused sense good (criteria sense good policy digest) disk cause)) is isnt.cause)));
         crash = λ tells honest.
             let each = subst (λ ds. AllHonest sense ds) (sym so.taken) honest in
             let those = told.crash tells (each_front (λ (d : D). IsTrue (sense.honest d)) so.firsts (disk ∷ left) each) in
@@ -360,7 +377,7 @@ module _ {D : Type 0} (sense : Sense D) (good : List ℕ → List ℕ → List �
 module _ {D : Type 0} (sense : Sense D) (good : List ℕ → List ℕ → List ℕ → Bool) (faults : D → ℕ) (disks : List D) where
   -- nothing was begun
   pub back_untouched : (policy : List PlacedItem) (digest : List ℕ) (names : List Bytes) → AreHandedBack sense good faults policy digest names disks stop.NoMemory disks
-  back_untouched policy digest names = record { why_not = tt; crash = λ tells honest. still_whole sense good policy digest disks }
+  back_untouched policy digest names = record { why_not = tt; failed = λ is. absurd cc; crash = λ tells honest. still_whole sense good policy digest disks }
 
   pub counts_untouched : (names : List Bytes) → AreBack sense good faults names disks stop.NoMemory disks
   counts_untouched names = record { cause = tt; beyond = refl; none_fell = none_fell_same faults disks; as_honest = honest_same sense.honest disks }

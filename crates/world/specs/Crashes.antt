@@ -3,6 +3,7 @@ use Rattle.std.specs.Prelude.{◌≡◌, ◌⊎◌, ℕ, Bool, IsTrue, List, [],
 use Rattle.std.specs.declared.alloc.Global.{Global}
 use Rattle.braid_run.specs.Soundness.{Criteria}
 use Rattle.journal.specs.declared.fault.OpenFault.{OpenFault}
+use Rattle.outside.specs.Causes.{Rose}
 use Rattle.outside.specs.Crashes.{LeavesOnly}
 use Rattle.outside.specs.Envelope.{author_id}
 use Rattle.policy_ast.specs.declared.policy.PlacedItem.{PlacedItem}
@@ -61,6 +62,14 @@ module _ {D : Type 0} (sense : Sense D) (good : List ℕ → List ℕ → List �
     RefusesFirst (name ∷ names) [] refused cause = ⊥
     RefusesFirst (name ∷ names) (disk ∷ disks) refused cause =
         ((refused ≡ name) × IsRefused criteria disk cause) ⊎ (((front : Front) × OpensTo criteria disk front) × RefusesFirst names disks refused cause)
+
+    -- The first disk that fails is that of the first name whose replica isn't opened: its count rose. Those before it open, and those behind it stay as they were.
+    abbrev pub FailsFirst : (D → ℕ) → List Bytes → List D → List D → Type 0
+    FailsFirst faults [] disks new = ⊥
+    FailsFirst faults (name ∷ names) [] new = ⊥
+    FailsFirst faults (name ∷ names) (disk ∷ disks) [] = ⊥
+    FailsFirst faults (name ∷ names) (disk ∷ disks) (back ∷ backs) =
+        (Rose (faults disk) (faults back) × (backs ≡ disks)) ⊎ (((front : Front) × OpensTo criteria disk front) × FailsFirst faults names disks backs)
 
     -- A world as it is opened: the replicas, no messages, and the disks beyond those of the replicas; or why it isn't.
     pub record IsOpenedOn (names : List Bytes) (disks : List D) (site : Site D) : Type 0 where

@@ -95,6 +95,14 @@ abbrev pub StepsReopening : {T D : Type 0} → Sense D → (List ℕ → List �
 StepsReopening sense good old one before (Ok done) after new = (text : Bytes) × Reopens sense good old.replicas one (Ok text) new.replicas × (after ≡ before ++ text)
 StepsReopening sense good old one before (Err why) after new = Reopens sense good old.replicas one (Err why) new.replicas × (after ≡ before)
 
+-- Only these lines make a message, or none under its number.
+abbrev pub HasNumber : Line → Type 0
+HasNumber (line.Ask a) = Unit {0}
+HasNumber (line.Next a n) = Unit {0}
+HasNumber (line.Answer a n) = Unit {0}
+HasNumber (line.Inject bytes) = Unit {0}
+HasNumber other = ⊥
+
 -- Only these lines ask for seals.
 abbrev pub Acts : Line → Type 0
 Acts (line.Init a f args) = Unit {0}

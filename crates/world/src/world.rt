@@ -1,12 +1,12 @@
-ghost use Rattle.std.specs.Prelude.{◌≡◌, ◌≤◌, ◌<◌, ◌+◌, ℕ, All, Err, IfErr, IfOk, IsTrue, List, OnErr, OnOk, drop, length, map, true};
+ghost use Rattle.std.specs.Prelude.{◌≡◌, ◌⊎◌, ◌≤◌, ◌<◌, ◌+◌, ℕ, All, Err, IfErr, IfOk, IsTrue, List, OnErr, OnOk, drop, length, map, true};
 ghost use Rattle.std.specs.List.{AllByRecursion};
 ghost use Rattle.journal.specs.declared.fault.OpenFault.{OpenFault};
 ghost use Rattle.policy_ast.specs.declared.policy.PlacedItem.{PlacedItem};
 ghost use Rattle.replica.specs.Disks.{AreSoundFronts};
 ghost use Rattle.script.specs.Scripts.{with_line};
 ghost use Rattle.world.specs.Lines.{Tags, may_run};
-ghost use Rattle.world.specs.Crashes.{AreSafe, OpenAtEachMoment, OpenWhole, OpensWorld, opened_disks};
-ghost use Rattle.world.specs.Stops.{Acts, AreAsHonest, HasCause, IsFront, IsSteady, NoneFell, OwnFalls, RefusesJournal, StepsReopening, changed_name, Steps as IsStepOf};
+ghost use Rattle.world.specs.Crashes.{AreSafe, FailsFirst, OpenAtEachMoment, OpenWhole, OpensWorld, opened_disks};
+ghost use Rattle.world.specs.Stops.{Acts, AreAsHonest, HasCause, HasNumber, IsFront, IsSteady, NoneFell, OwnFalls, RefusesJournal, StepsReopening, changed_name, Steps as IsStepOf};
 ghost use Rattle.world.specs.Worlds.{AreUp, declared, disks_of, with_message};
 ghost use Rattle.world.specs.declared.stop.RunStop.TheVariants as stop;
 ghost use Rattle.world.specs.working.Kinds.{Keeping, is_changing, is_making, is_showing};
@@ -84,6 +84,8 @@ impl<R: Runner, G: Graph, F: FactBase, D: Disk> World<R, G, F, D> {
         ensures disks { NoneFell D.faults disks.items (opened_disks result) }
         ensures honest { AreAsHonest D.honest disks.items (opened_disks result) }
         ensures cause { IfErr result (λ refused. HasCause 0 0 D.faults disks.items refused.1.items refused.0) }
+        ensures own { (policy : List PlacedItem) → All (λ r. R.rules r ≡ policy) runners.items
+            → IfErr result (λ refused. refused.0 ≡ stop.DiskFault → FailsFirst (record { tells = D.tells; content = D.content; honest = D.honest }) E.good policy digest.now D.faults names.now disks.items refused.1.items) }
     {
         match open_all(alloc, runners, names, digest, disks, env) {
             Ok((replicas, spare)) => Ok(World {
@@ -238,6 +240,7 @@ impl<R: Runner, G: Graph, F: FactBase, D: Disk> World<R, G, F, D> {
         ensures journals { (name : List ℕ) (cause : OpenFault) → result ≡ Err (stop.Journal name cause) → RefusesJournal (record { tells = D.tells; content = D.content; honest = D.honest }) E.good self.old.replicas line.now name cause }
         ensures names { map (λ r. r.name) self.new.replicas ≡ map (λ r. r.name) self.old.replicas }
         ensures messages { OnOk result (length self.new.messages ≡ (with_line (declared self.old) line.now).messages) }
+        ensures others { (self.new.messages ≡ self.old.messages) ⊎ HasNumber line.now }
         ensures spare { self.new.spare ≡ self.old.spare }
     {
         self.run_into(alloc, line, env, into, steps)

@@ -11,7 +11,7 @@ use Rattle.replica.specs.Calls.{IsOpened}
 use Rattle.replica.specs.Disks.{AreSoundFronts, OpensWhole, Sense}
 use Rattle.replica.specs.Fronts.{front_of}
 use Rattle.script_texts.specs.Bytes.{Bytes}
-use Rattle.world.specs.Crashes.{AreOpened, IsRefused, IsWhyNot, OpenWhole, OpensTo, criteria}
+use Rattle.world.specs.Crashes.{AreOpened, FailsFirst, IsRefused, IsWhyNot, OpenWhole, OpensTo, criteria}
 use Rattle.world.specs.Stops.{AreAsHonest, HasCause, NoneFell}
 use Rattle.world.specs.Worlds.{AreUp, Named}
 use Rattle.world.specs.declared.stop.RunStop.{RunStop}
@@ -69,6 +69,7 @@ module _ {D : Type 0} (sense : Sense D) (good : List ℕ → List ℕ → List �
   -- Some disk isn't opened, and all are handed back.
   pub record AreHandedBack (names : List Bytes) (disks : List D) (why : RunStop) (back : List D) : Type 0 where
     pub why_not : IsWhyNot sense good policy digest names disks why
+    pub failed : why ≡ stop.DiskFault → FailsFirst sense good policy digest faults names disks back
     pub crash : IsTrue sense.tells → AllHonest sense disks → OpenWhole sense good policy digest disks back
 
   abbrev pub OpensAll : List Bytes → List D → Result (Vec (Named D) Global × Vec D Global) (RunStop × Vec D Global) → Type 0

@@ -1,12 +1,12 @@
 -- A line of a world, whatever it answers.
-use Rattle.std.specs.Prelude.{◌≡◌, ℕ, length, OnOk, Result}
+use Rattle.std.specs.Prelude.{◌≡◌, ◌⊎◌, ℕ, length, OnOk, Result}
 use Rattle.outside.specs.Causes.{Rose}
 use Rattle.replica.specs.Disks.{Sense}
 use Rattle.script.specs.Scripts.{with_line}
 use Rattle.script.specs.declared.line.Line.{Line}
 use Rattle.script_texts.specs.Bytes.{Bytes}
 use Rattle.world.specs.Lines.{Tags}
-use Rattle.world.specs.Stops.{Acts, IsFront, IsSteady, RefusesJournal, Reopens, RunsOrStops, Steps, StepsReopening, changed_name}
+use Rattle.world.specs.Stops.{Acts, HasNumber, IsFront, IsSteady, RefusesJournal, Reopens, RunsOrStops, Steps, StepsReopening, changed_name}
 use Rattle.world.specs.Worlds.{Site, declared}
 use Rattle.world.specs.declared.stop.RunStop.{RunStop}
 use Rattle.world.specs.working.Handling.{Handles}
@@ -16,6 +16,7 @@ module _ {D : Type 0} (tags : Tags) (sense : Sense D) (faults : D → ℕ) (befo
   pub record Passes {T : Type 0} (old : Site D) (one : Line) (result : Result T RunStop) (new : Site D) : Type 0 where
     pub disks : Handles sense tags.good faults (Acts one × Rose before now) (changed_name one) (RefusesJournal sense tags.good old.replicas one) (IsFront tags old one) old.replicas result new.replicas
     pub counted : OnOk result (length new.messages ≡ (with_line (declared old) one).messages)
+    pub others : (new.messages ≡ old.messages) ⊎ HasNumber one
     pub spare : new.spare ≡ old.spare
 
   -- The same, and how it goes.

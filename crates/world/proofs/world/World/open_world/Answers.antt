@@ -14,5 +14,11 @@ returns-in-Ok-clause-crash g c = λ policy each.
 pub returns-in-Err-clause-opens : goal.returns-in-Err-clause-opens
 returns-in-Err-clause-opens g c = λ policy each. (c.in-Err.ensures.opens policy each).why_not
 
+pub returns-in-Err-clause-own : goal.returns-in-Err-clause-own
+returns-in-Err-clause-own g c = λ policy each. (c.in-Err.ensures.opens policy each).failed
+
+pub returns-in-Ok-clause-own : goal.returns-in-Ok-clause-own
+returns-in-Ok-clause-own g c = λ policy each. tt
+
 pub returns-in-Err-clause-crash : goal.returns-in-Err-clause-crash
 returns-in-Err-clause-crash g c = λ policy each tells honest. ((c.in-Err.ensures.opens policy each).crash tells honest, tt)

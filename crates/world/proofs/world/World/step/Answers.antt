@@ -36,6 +36,9 @@ returns-clause-names g c = names_stay g.D.Disk.faults g.D.Disk.honest c.args.sel
 pub returns-clause-messages : goal.returns-clause-messages
 returns-clause-messages g c = c.run_into.ensures.steps.passes.counted
 
+pub returns-clause-others : goal.returns-clause-others
+returns-clause-others g c = c.run_into.ensures.steps.passes.others
+
 pub returns-clause-spare : goal.returns-clause-spare
 returns-clause-spare g c = c.run_into.ensures.steps.passes.spare
 
