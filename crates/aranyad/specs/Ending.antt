@@ -102,7 +102,7 @@ RunsScripts None = ⊥
 RunsScripts (Some (Check policy)) = ⊥
 RunsScripts (Some (Run policy script store)) = Unit {0}
 
--- What each status needs to have happened, whatever the devices tell. `disks` says that the count of some used disk rose.
+-- What each status needs to have happened, whatever the devices tell. `disks` says that the count of one of the eight disks rose.
 abbrev pub HasCause : Option Mode → Counts → Counts → Type 0 → Option (List ℕ) → Status → Type 0
 HasCause mode old new disks last status.Done = Unit {0}
 HasCause mode old new disks last status.PolicyRefused = Unit {0}
