@@ -1,7 +1,7 @@
 -- Payloads are read as the grammar says.
 use Rattle.std.proofs.Common.{◌≡◌, ℕ, ◌≤◌, max, List, [], ◌++◌, length, Some, sym, ap, ◌∙◌, arith}
 use Rattle.std.proofs.lemmas.List.{append-nil}
-use Rattle.base_bytes.specs.working.Decoding.{value_at}
+use Rattle.base_bytes.specs.Decoding.{value_at}
 use Rattle.base_bytes.specs.Laws.{IsUnambiguous}
 use Rattle.base_bytes.specs.Payload.{IsPayload, spelling}
 use Rattle.base_bytes.specs.Reaching.{NoneReachesItself}

@@ -3,7 +3,7 @@ use Rattle.std.proofs.Common.{◌≡◌, ℕ, Bool, true, false, List, Some, Non
 use Rattle.std.specs.Int.{w32}
 use Rattle.std.specs.Str.{is_utf8, IsUtf8}
 use Rattle.std.proofs.lemmas.Str.{IsUtf8-from_is_utf8, is_utf8-from_IsUtf8}
-use Rattle.base_bytes.specs.working.Decoding.{text_at}
+use Rattle.base_bytes.specs.Decoding.{text_at}
 use Rattle.base_bytes.specs.Reading.{counted_at}
 use Rattle.base_bytes.specs.declared.value.Value.TheVariants as value
 

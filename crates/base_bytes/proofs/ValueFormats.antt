@@ -9,7 +9,7 @@ use Rattle.std.proofs.Math.Facts.{Fits-bits, Fits-of_z, sfits_to_z}
 use Rattle.std.specs.Int.RustNames.{FitsSigned}
 use Rattle.std.specs.List.{list_all}
 use Rattle.base_bytes.proofs.Bools.{and_then, and_both}
-use Rattle.base_bytes.specs.working.Decoding.{bool_at, id_at, raw_at, text_at, variant_at, fields_by, inner_at, layer_at, optional_at, struct_at, value_at}
+use Rattle.base_bytes.specs.Decoding.{bool_at, id_at, raw_at, text_at, variant_at, fields_by, inner_at, layer_at, optional_at, struct_at, value_at}
 use Rattle.base_bytes.specs.Payload.{spelling, spelling_all, spelling_layer}
 use Rattle.base_bytes.specs.Reading.{Reading, in_order, made, number_at}
 use Rattle.base_bytes.specs.Values.{are_fields, fits_int, has_layer, has_type, hold_in_order, is_variant, shape_at}

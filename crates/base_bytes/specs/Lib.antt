@@ -5,6 +5,6 @@ pub mod Payload
 pub mod KeyOrder
 pub mod Words
 pub mod Reading
+pub mod Decoding
 pub mod Reaching
 pub mod Laws
-pub mod working

@@ -4,7 +4,7 @@ ghost use Rattle.base_bytes.specs.Payload.{IsPayload};
 ghost use Rattle.base_bytes.specs.Reaching.{NoneReachesItself};
 ghost use Rattle.base_bytes.specs.Reading.{Reads, ReadsAll};
 ghost use Rattle.base_bytes.specs.Values.{is_variant, shape_at};
-ghost use Rattle.base_bytes.specs.working.Decoding.{struct_at, text_at, raw_at, optional_at, value_at, values_at, variant_at};
+ghost use Rattle.base_bytes.specs.Decoding.{struct_at, text_at, raw_at, optional_at, value_at, values_at, variant_at};
 
 use crate::{Bytes, NoMemory, Reader, Shape, Shapes, Text, Ty, Unread, Value, Values, or_none};
 use sqlite_items::{Boxed, Items};

@@ -1,6 +1,6 @@
 // Graphs of two documents, run in the order of their braids: the facts, the effects, and what each command comes to.
 ghost use Rattle.std.specs.Prelude.{◌≡◌, ◌<◌, IfOk};
-ghost use Rattle.fact_store.specs.working.Stored.{rows_of};
+ghost use Rattle.fact_store.specs.Stored.{rows_of};
 ghost use Rattle.policy_meaning.specs.Typed.{AreTyped};
 
 use crate::graphs::Field::{Ident, Int, Str, Variant};

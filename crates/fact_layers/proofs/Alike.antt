@@ -9,7 +9,7 @@ use Rattle.fact_store.specs.declared.wanted.Wanted.{Wanted}
 use Rattle.fact_store.specs.Matching.{is_at}
 use Rattle.fact_store.specs.Rows.{are_keys}
 use Rattle.fact_store.specs.Sameness.{same_values}
-use Rattle.fact_store.specs.working.Stored.{row_of}
+use Rattle.fact_store.specs.Stored.{row_of}
 use Rattle.fact_store.proofs.Places.{row_ties}
 use Rattle.fact_store.proofs.Sameness.{same_values_decide}
 use Rattle.fact_layers.specs.working.Said.{at}

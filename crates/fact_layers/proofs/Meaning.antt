@@ -5,7 +5,7 @@ use Rattle.fact_store.specs.declared.row.Row.{Row}
 use Rattle.fact_store.specs.declared.wanted.Wanted.{Wanted}
 use Rattle.fact_store.specs.Rows.{are_keys, is_base}
 use Rattle.fact_store.specs.Writes.{with_row}
-use Rattle.fact_store.specs.working.Stored.{row_of}
+use Rattle.fact_store.specs.Stored.{row_of}
 use Rattle.fact_store.proofs.Lists.{filter-filter}
 use Rattle.fact_store.proofs.RowLaws.{leaves, stands}
 use Rattle.fact_store.proofs.Telling.{told_by_places}

@@ -13,7 +13,7 @@ use Rattle.fact_store.specs.declared.wanted.Wanted.{Wanted}
 use Rattle.fact_store.specs.Matching.{first_row, has_named, is_within, matches, selected}
 use Rattle.fact_store.specs.Rows.{are_keys, is_base, is_before}
 use Rattle.fact_store.specs.working.Orders.{wanted_order, wanted_order_total}
-use Rattle.fact_store.specs.working.Stored.{row_of}
+use Rattle.fact_store.specs.Stored.{row_of}
 use Rattle.fact_store.proofs.Bases.{base-filter, base_from}
 use Rattle.fact_store.proofs.Lists.{all_pass, all_weaker, filter-filter}
 use Rattle.fact_store.proofs.Runs.{IsRun, from_within, is_from, run_ends}

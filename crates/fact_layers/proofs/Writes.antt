@@ -11,7 +11,7 @@ use Rattle.fact_store.specs.Laws.{IsElsewhere}
 use Rattle.fact_store.specs.Matching.{has_named}
 use Rattle.fact_store.specs.Rows.{are_keys, is_base, place_order}
 use Rattle.fact_store.specs.Writes.{created, deleted, is_other, is_there, revalued, updated, with_row}
-use Rattle.fact_store.specs.working.Stored.{row_of}
+use Rattle.fact_store.specs.Stored.{row_of}
 use Rattle.fact_store.proofs.Bases.{base-revalued, base-with_row}
 use Rattle.fact_store.proofs.Lists.{filter-filter}
 use Rattle.fact_store.proofs.RowLaws.{at-map-revalued, at_itself, leaves, stands, taken-revalued}

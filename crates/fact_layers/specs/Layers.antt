@@ -9,7 +9,7 @@ use Rattle.fact_store.specs.declared.row.Row.{Row}
 use Rattle.fact_store.specs.declared.wanted.Wanted.{Wanted}
 use Rattle.fact_store.specs.Matching.{is_at}
 use Rattle.fact_store.specs.Writes.{with_row}
-use Rattle.fact_store.specs.working.Stored.{row_of}
+use Rattle.fact_store.specs.Stored.{row_of}
 
 -- What a layer says of a place: the values of the row there, or None: no row is there.
 abbrev pub Said : Type 0

@@ -13,7 +13,7 @@ use Rattle.fact_store.specs.declared.wanted.Wanted.{Wanted}
 use Rattle.fact_store.specs.working.Orders.{wanted_order, wanted_order_total}
 use Rattle.fact_store.specs.Rows.{are_keys, is_base}
 use Rattle.fact_store.specs.Sameness.{same_values}
-use Rattle.fact_store.specs.working.Stored.{row_of, rows_of}
+use Rattle.fact_store.specs.Stored.{row_of, rows_of}
 use Rattle.fact_store.proofs.Bases.{base_parts}
 use Rattle.fact_store.proofs.Places.{row_ties}
 use Rattle.fact_store.proofs.Sameness.{same_values_decide}

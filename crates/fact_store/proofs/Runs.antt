@@ -14,7 +14,7 @@ use Rattle.fact_store.specs.Matching.{begins_with, has_named, is_within, matches
 use Rattle.fact_store.specs.working.Orders.{key_order_total, wanted_order}
 use Rattle.fact_store.specs.Rows.{are_keys, is_base, is_before, place_order}
 use Rattle.fact_store.specs.Sameness.{same_value}
-use Rattle.fact_store.specs.working.Stored.{row_of, rows_of}
+use Rattle.fact_store.specs.Stored.{row_of, rows_of}
 use Rattle.fact_store.proofs.Bases.{base-filter, base_parts}
 use Rattle.fact_store.proofs.Lists.{all_pass, all_weaker, filter-filter, filter_none}
 use Rattle.fact_store.proofs.Places.{key_ties}

@@ -11,7 +11,7 @@ use Rattle.fact_store.specs.declared.wanted.Wanted.{Wanted}
 use Rattle.fact_store.specs.Matching.{has_named, is_at}
 use Rattle.fact_store.specs.working.Orders.{wanted_order}
 use Rattle.fact_store.specs.Rows.{are_keys, is_base, is_before}
-use Rattle.fact_store.specs.working.Stored.{row_of, rows_of}
+use Rattle.fact_store.specs.Stored.{row_of, rows_of}
 use Rattle.fact_store.specs.Writes.{is_other, is_there, revalued, with_row}
 use Rattle.fact_store.proofs.Bases.{base_parts, with_row-behind, with_row-front}
 use Rattle.fact_store.proofs.Lists.{all_weaker, filter_all}

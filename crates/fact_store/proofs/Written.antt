@@ -9,7 +9,7 @@ use Rattle.fact_store.specs.declared.write_fault.WriteFault.TheVariants as fault
 use Rattle.fact_store.specs.Matching.{has_named, is_at}
 use Rattle.fact_store.specs.working.Orders.{wanted_order}
 use Rattle.fact_store.specs.Rows.{are_keys, is_base}
-use Rattle.fact_store.specs.working.Stored.{row_of, rows_of}
+use Rattle.fact_store.specs.Stored.{row_of, rows_of}
 use Rattle.fact_store.specs.Writes.{created, deleted, is_there, updated}
 use Rattle.fact_store.proofs.Bases.{base-filter, base-revalued, base-with_row}
 use Rattle.fact_store.proofs.Writing.{Entry, at_key, insert-stored, other-stored, remove-stored, set-stored, there-stored}

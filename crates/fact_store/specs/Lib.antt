@@ -3,5 +3,6 @@ pub mod Laws
 pub mod Matching
 pub mod Rows
 pub mod Sameness
+pub mod Stored
 pub mod Writes
 pub mod working

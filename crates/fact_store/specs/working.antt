@@ -1,3 +1,2 @@
 -- What serves the contracts of private functions, or a trait's law. Nobody has to read it who reads the promises.
 pub mod Orders
-pub mod Stored

@@ -2,7 +2,7 @@ ghost use Rattle.std.specs.Prelude.{IfOk, IsTrue};
 ghost use Rattle.std.specs.BTreeMap.{IsFromIterResult};
 ghost use Rattle.fact_store.specs.working.Orders.{wanted_order};
 ghost use Rattle.fact_store.specs.Rows.{is_base};
-ghost use Rattle.fact_store.specs.working.Stored.{rows_of};
+ghost use Rattle.fact_store.specs.Stored.{rows_of};
 
 use crate::matching::{has_named, is_place_within};
 use crate::row::row_at;

@@ -1,7 +1,7 @@
 ghost use Rattle.std.specs.Prelude.{◌≡◌, []};
 ghost use Rattle.fact_store.specs.Matching.{begins_with, has_named, is_within};
 ghost use Rattle.fact_store.specs.Sameness.{same_value};
-ghost use Rattle.fact_store.specs.working.Stored.{row_of};
+ghost use Rattle.fact_store.specs.Stored.{row_of};
 
 use crate::Wanted;
 use base_bytes::Value;

@@ -1,5 +1,5 @@
 ghost use Rattle.std.specs.Prelude.{◌≡◌, IfOk};
-ghost use Rattle.fact_store.specs.working.Stored.{row_of};
+ghost use Rattle.fact_store.specs.Stored.{row_of};
 
 use crate::Wanted;
 use base_bytes::{NoMemory, Values, copy_values};

@@ -16,7 +16,7 @@ use Rattle.journal.specs.Commits.{IsNext, MayStand, commit_body, counted_command
 use Rattle.journal.specs.Images.{ReadsHeld, Splits}
 use Rattle.journal.specs.Journal.{IsBeforeOrAfter, IsSettled}
 use Rattle.journal.specs.Outline.{Outline, outline_behind}
-use Rattle.journal.specs.working.Ends.{outline_at}
+use Rattle.journal.specs.Ends.{outline_at}
 use Rattle.journal.specs.working.Writing.{WritesRecord, through}
 use Rattle.journal.specs.declared.commit.Commit.{Commit}
 use Rattle.journal.specs.declared.ready.Ready.{Ready}

@@ -8,7 +8,7 @@ use Rattle.journal.specs.Images.{BeginsWith}
 use Rattle.std.specs.List.{AllByRecursion}
 use Rattle.journal.specs.Journal.{AreOf}
 use Rattle.journal.specs.Outline.{Outline, outline_of, outline_behind}
-use Rattle.journal.specs.working.Ends.{outline_at}
+use Rattle.journal.specs.Ends.{outline_at}
 use Rattle.journal.specs.working.Listing.{Lists}
 use Rattle.journal.specs.working.Opening.{EndsBroken, EndsShut, IsBroken, IsFirst, IsShut, ReadsCommits, ReadsGate}
 use Rattle.journal.specs.declared.commit.Commit.{Commit}

@@ -13,7 +13,7 @@ use Rattle.journal.specs.Commits.{gated, open_record, policy_body}
 use Rattle.journal.specs.Images.{IsFresh, ReadsHeld, Splits}
 use Rattle.journal.specs.Journal.{IsSettled, WasOrReadsAlike}
 use Rattle.journal.specs.Outline.{outline_of}
-use Rattle.journal.specs.working.Ends.{outline_at}
+use Rattle.journal.specs.Ends.{outline_at}
 use Rattle.journal.specs.working.Opening.{IsHeld, StartsOn}
 use Rattle.journal.specs.working.Writing.{FailsThrough, WritesRecord, through}
 use Rattle.journal.specs.declared.commit.Commit.{Commit}

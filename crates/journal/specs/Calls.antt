@@ -7,7 +7,7 @@ use Rattle.command.specs.Wire.{IsInForm}
 use Rattle.command.specs.declared.command.Command.{Command}
 use Rattle.journal.specs.Commits.{IsCommitForm, MayStand, begins_with_init, commit_body}
 use Rattle.journal.specs.Outline.{Outline, outline_behind}
-use Rattle.journal.specs.working.Ends.{outline_at}
+use Rattle.journal.specs.Ends.{outline_at}
 use Rattle.journal.specs.declared.commit.Commit.{Commit}
 use Rattle.journal.specs.declared.commit.Commit.TheVariants.{Graph, Commands}
 use Rattle.journal.specs.declared.fault.OpenFault.{OpenFault}

@@ -4,4 +4,5 @@ pub mod Commits
 pub mod Images
 pub mod Journal
 pub mod Outline
+pub mod Ends
 pub mod working

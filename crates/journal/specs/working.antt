@@ -2,7 +2,6 @@
 pub mod Reading
 pub mod Scanning
 pub mod Sizes
-pub mod Ends
 pub mod Opening
 pub mod Listing
 pub mod Writing

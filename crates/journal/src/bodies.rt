@@ -6,7 +6,7 @@ ghost use Rattle.journal.specs.Calls.{CanAdd, IsReadyFor};
 ghost use Rattle.journal.specs.Commits.{IsCommitForm, MayStand, commit_body, counted_command};
 ghost use Rattle.journal.specs.declared.commit.Commit.{Commit as ACommit};
 ghost use Rattle.journal.specs.declared.commit.Commit.TheVariants as a_commit;
-ghost use Rattle.journal.specs.working.Ends.{outline_at};
+ghost use Rattle.journal.specs.Ends.{outline_at};
 ghost use Rattle.journal.specs.working.Sizes.{Takes};
 
 use crate::commit::Commit;

@@ -2,7 +2,7 @@
 ghost use Rattle.std.specs.Prelude.{◌≡◌, ◌+◌, [], ◌↔◌, false, IsTrue};
 ghost use Rattle.journal.specs.Commits.{MayStand, begins_with_init, count_of};
 ghost use Rattle.journal.specs.Outline.{outline_of};
-ghost use Rattle.journal.specs.working.Ends.{outline_at};
+ghost use Rattle.journal.specs.Ends.{outline_at};
 ghost use Rattle.journal.specs.working.Sizes.{Takes};
 
 use crate::commit::Commit;

@@ -4,7 +4,7 @@ ghost use Rattle.journal.specs.Commits.{IsCommitForm, MayStand};
 ghost use Rattle.journal.specs.declared.fault.OpenFault.{OpenFault};
 ghost use Rattle.journal.specs.working.Opening.{OpenLooks, ReadsCommits, ReadsGate};
 ghost use Rattle.journal.specs.Journal.{AreOf};
-ghost use Rattle.journal.specs.working.Ends.{outline_at};
+ghost use Rattle.journal.specs.Ends.{outline_at};
 ghost use Rattle.journal.specs.working.Scanning.{left};
 ghost use Rattle.journal.specs.working.Sizes.{Takes};
 

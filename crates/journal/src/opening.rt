@@ -7,7 +7,7 @@ ghost use Rattle.journal.specs.Images.{IsBegun};
 ghost use Rattle.journal.specs.Journal.{AreOf, IsSettled, Opens, OpenWrites, StaysSettled, WasOrReadsAlike};
 ghost use Rattle.journal.specs.Outline.{outline_of};
 ghost use Rattle.journal.specs.declared.fault.OpenFault.{OpenFault};
-ghost use Rattle.journal.specs.working.Ends.{outline_at};
+ghost use Rattle.journal.specs.Ends.{outline_at};
 
 use crate::commit::Commit;
 use crate::end::End;

@@ -4,7 +4,7 @@ use Rattle.std.specs.Prelude.{reverse}
 use Rattle.std.proofs.lemmas.Grind.{common_steps}
 use Rattle.std.proofs.lemmas.List.{drop-drop, reverse-append, take-append-drop}
 use Rattle.outside.specs.Disk.{Content, Moment, IsImage, at_rest, overwritten, with_range}
-use Rattle.outside.specs.working.Replaced.{undone, moment_after, past_after}
+use Rattle.outside.specs.Replaced.{undone, moment_after, past_after}
 use Rattle.outside.specs.declared.call.Call.{Call}
 use Rattle.outside.specs.declared.call.Call.TheVariants as call
 use Rattle.outside.specs.declared.replaced.Replaced.{Replaced}

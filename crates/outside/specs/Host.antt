@@ -2,7 +2,7 @@
 -- the types of its files and folders.
 use Rattle.std.specs.Prelude.{◌≡◌, ℕ, List, take, Option, IfSome}
 use Rattle.outside.specs.Causes.{next_count}
-use Rattle.outside.specs.working.Count.{count_of}
+use Rattle.outside.specs.Count.{count_of}
 use Rattle.outside.specs.declared.faults.DiskStep.{DiskStep}
 use Rattle.outside.specs.declared.file_disk.FileDisk.{FileDisk}
 use Rattle.outside.specs.declared.host_files.HostFiles.{HostFiles}

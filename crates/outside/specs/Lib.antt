@@ -12,3 +12,7 @@ pub mod Plan
 pub mod Sink
 pub mod ListEnvelope
 pub mod MemoryDisk
+pub mod Count
+pub mod Schedule
+pub mod Replaced
+pub mod Tracked

@@ -2,8 +2,8 @@
 use Rattle.std.specs.Prelude.{◌≡◌, ◌⊎◌, ◌/◌, ℕ, List, length, take, Option}
 use Rattle.outside.specs.Disk.{Content, after_part}
 use Rattle.outside.specs.Plan.{Plan}
-use Rattle.outside.specs.working.Schedule.{plan_of}
-use Rattle.outside.specs.working.Tracked.{tracked_content}
+use Rattle.outside.specs.Schedule.{plan_of}
+use Rattle.outside.specs.Tracked.{tracked_content}
 use Rattle.outside.specs.declared.faults.DiskStep.{DiskStep}
 use Rattle.outside.specs.declared.memory_disk.MemoryDisk.{MemoryDisk}
 

@@ -4,7 +4,7 @@ use Rattle.std.specs.Option.{option_map}
 use Rattle.std.specs.Str.{bytes_eq}
 use Rattle.outside.specs.Files.{Holding}
 use Rattle.outside.specs.Plan.{Plan}
-use Rattle.outside.specs.working.Schedule.{plan_of}
+use Rattle.outside.specs.Schedule.{plan_of}
 use Rattle.outside.specs.declared.memory_files.MemoryFiles.{MemoryFiles}
 
 -- the files of a list of names and bytes: at each name, the first that has it

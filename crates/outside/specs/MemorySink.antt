@@ -1,7 +1,7 @@
 -- What contracts see of the sink in memory.
 use Rattle.std.specs.Prelude.{ℕ, List}
 use Rattle.outside.specs.Plan.{Plan}
-use Rattle.outside.specs.working.Schedule.{plan_of}
+use Rattle.outside.specs.Schedule.{plan_of}
 use Rattle.outside.specs.declared.memory_sink.MemorySink.{MemorySink}
 
 -- the bytes written to it

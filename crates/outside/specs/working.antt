@@ -1,7 +1,3 @@
 -- What serves contracts of private functions, views of private fields among it, and proofs of the traits' laws.
 pub mod AtRest
 pub mod EnvelopeLaw
-pub mod Count
-pub mod Schedule
-pub mod Replaced
-pub mod Tracked

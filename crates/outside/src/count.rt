@@ -10,7 +10,7 @@ pub struct Count {
 }
 
 impl Count {
-    ghost use Rattle.outside.specs.working.Count.{count_of};
+    ghost use Rattle.outside.specs.Count.{count_of};
 
     pub fn new() -> Count
         ensures { count_of result ≡ 0 }

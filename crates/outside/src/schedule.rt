@@ -1,7 +1,7 @@
 // Counts the calls of an object in memory, and says which of them are to fail.
 ghost use Rattle.std.specs.Prelude.{◌≡◌, ◌↔◌, IsTrue};
 ghost use Rattle.outside.specs.Plan.{IsDue, plan_at_start};
-ghost use Rattle.outside.specs.working.Schedule.{plan_of, CountsCall, CountsFault};
+ghost use Rattle.outside.specs.Schedule.{plan_of, CountsCall, CountsFault};
 
 use crate::count::Count;
 

@@ -1,7 +1,7 @@
 // Bytes that are written in place, with a record of all calls and of what each write replaced.
 ghost use Rattle.std.specs.Prelude.{◌≡◌, ℕ, ◌<◌, ◌≤◌, length, slice_index, reverse, take, drop, OnOk, OnErr};
 ghost use Rattle.outside.specs.Disk.{IsImage, overwritten, content_at_rest, after_part, after_sync};
-ghost use Rattle.outside.specs.working.Replaced.{moment_after};
+ghost use Rattle.outside.specs.Replaced.{moment_after};
 
 use crate::call::Call;
 use crate::replaced::Replaced;
@@ -46,7 +46,7 @@ fn known_bytes(bytes: &[u8])
 }
 
 impl TrackedBytes {
-    ghost use Rattle.outside.specs.working.Tracked.{tracked_content};
+    ghost use Rattle.outside.specs.Tracked.{tracked_content};
 
     /// These bytes, as synced. Takes no memory.
     pub fn new(alloc: Global, bytes: Bytes) -> TrackedBytes

@@ -12,7 +12,7 @@ use Rattle.policy_rules.specs.Laws.{AreJudged}
 use Rattle.policy_rules.specs.Names.{name_of, names_of}
 use Rattle.policy_rules.specs.Nesting.{may_nest}
 use Rattle.policy_rules.specs.WellTyped.{HasTypeFault, IsWellTyped, IsWellTypedAt, items_of}
-use Rattle.policy_rules.specs.working.ItemJudging.{is_of_kind, item_is}
+use Rattle.policy_rules.specs.ItemJudging.{is_of_kind, item_is}
 
 by_test : {P : Type 0} (b : Bool) → (b ≡ true → P) → (b ≡ false → P) → P
 by_test true holds fails = holds refl

@@ -3,8 +3,8 @@
 ghost use Rattle.std.specs.Prelude.{◌≡◌, ◌&&◌, [], IfOk};
 ghost use Rattle.policy_rules.specs.Commands.{are_attributes, attributes_of, has_its_sections};
 ghost use Rattle.policy_rules.specs.Items.{in_command};
-ghost use Rattle.policy_rules.specs.working.ItemJudging.{section_is, sections_are};
-ghost use Rattle.policy_rules.specs.working.Judging.{body_is};
+ghost use Rattle.policy_rules.specs.ItemJudging.{section_is, sections_are};
+ghost use Rattle.policy_rules.specs.Judging.{body_is};
 
 use base_bytes::NoMemory;
 use policy_ast::{Name, Section};

@@ -7,7 +7,7 @@ ghost use Rattle.policy_rules.specs.Items.{are_parameters, in_action, in_finish_
 ghost use Rattle.policy_rules.specs.Scopes.{names_in};
 ghost use Rattle.policy_rules.specs.Statements.{ends_in_return};
 ghost use Rattle.policy_rules.specs.Types.{declared, written_type};
-ghost use Rattle.policy_rules.specs.working.Judging.{body_is, finish_stmts_are};
+ghost use Rattle.policy_rules.specs.Judging.{body_is, finish_stmts_are};
 
 use base_bytes::NoMemory;
 use policy_ast::{Field, FieldType, FinishStmt, Stmt};

@@ -2,7 +2,7 @@ ghost use Rattle.std.specs.Prelude.{◌≡◌, ◌<◌, ◌&&◌, Some, IfOk, le
 ghost use Rattle.policy_ast.specs.declared.item.Item.{Item};
 ghost use Rattle.policy_rules.specs.Names.{names_of};
 ghost use Rattle.policy_rules.specs.WellTyped.{items_of};
-ghost use Rattle.policy_rules.specs.working.ItemJudging.{is_of_kind, item_is};
+ghost use Rattle.policy_rules.specs.ItemJudging.{is_of_kind, item_is};
 
 use crate::commands::is_command;
 use crate::functions::{is_action, is_finish_function, is_function};

@@ -27,7 +27,7 @@ use Rattle.policy_rules.specs.Scopes.{Scope, may_introduce, name_type, with_name
 use Rattle.policy_rules.specs.declared.context.Context.{Context}
 use Rattle.policy_rules.specs.declared.types.NamedType.{NamedType}
 use Rattle.policy_rules.specs.declared.types.NamedType.TheVariants as ty
-use Rattle.policy_rules.specs.working.Inference.{◌>>=◌, Found, all_types, block_type, calculation_of, call_of, choice_of, compare_of, else_type, field_of, found, found_free, found_gap, found_layer, found_pattern, found_values, gap_types, introduced, is_foreign_call, logic_of, only_if, pattern_of, presence_of, struct_literal_of, types_within, unary_of}
+use Rattle.policy_rules.specs.Inference.{◌>>=◌, Found, all_types, block_type, calculation_of, call_of, choice_of, compare_of, else_type, field_of, found, found_free, found_gap, found_layer, found_pattern, found_values, gap_types, introduced, is_foreign_call, logic_of, only_if, pattern_of, presence_of, struct_literal_of, types_within, unary_of}
 use Rattle.policy_infer.specs.working.Types.{are_envelopes, bind_types, block_of, gap_type_of, gap_types_of, is_envelope, is_envelope_layer, lets_behind, otherwise_of, pattern_type, type_of, types_of}
 
 module _ (items : List Item) (context : Context) where

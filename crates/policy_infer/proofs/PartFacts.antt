@@ -7,8 +7,8 @@ use Rattle.policy_rules.specs.Expressions.{arithmetic_type, is_equality}
 use Rattle.policy_rules.specs.Types.{joined}
 use Rattle.policy_rules.specs.declared.types.NamedType.{NamedType}
 use Rattle.policy_rules.specs.declared.types.NamedType.TheVariants as ty
-use Rattle.policy_rules.specs.working.Inference.{◌>>=◌, calculation_of, choice_of, compare_of, compared_type, field_of, is_bool, is_int, logic_of, only_if, struct_of, unary_of, with_pattern}
-use Rattle.policy_rules.specs.working.Judging.{holds}
+use Rattle.policy_rules.specs.Inference.{◌>>=◌, calculation_of, choice_of, compare_of, compared_type, field_of, is_bool, is_int, logic_of, only_if, struct_of, unary_of, with_pattern}
+use Rattle.policy_rules.specs.Judging.{holds}
 use Rattle.policy_ast.specs.declared.expr.Arithmetic.{Arithmetic}
 use Rattle.policy_ast.specs.declared.expr.Comparison.{Comparison}
 use Rattle.policy_ast.specs.declared.expr.Unary.{Unary}

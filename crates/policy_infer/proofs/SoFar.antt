@@ -14,7 +14,7 @@ use Rattle.policy_infer.specs.working.Types.{block_of, introduced, lets_behind, 
 use Rattle.policy_rules.specs.Scopes.{Scope, may_introduce, with_name}
 use Rattle.policy_rules.specs.declared.context.Context.{Context}
 use Rattle.policy_rules.specs.declared.types.NamedType.{NamedType}
-use Rattle.policy_rules.specs.working.Inference.{◌>>=◌, only_if}
+use Rattle.policy_rules.specs.Inference.{◌>>=◌, only_if}
 
 -- an element is refused, so the whole is
 pub refused : {A B : Type 0} (r : Refusal) (o : Option A) (p : Option B) → (o ≡ None → p ≡ None) → Judges {A = A} (Err r) o → Judges {A = B} (Err r) p

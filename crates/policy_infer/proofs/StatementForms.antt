@@ -24,8 +24,8 @@ use Rattle.policy_rules.specs.Statements.{is_last_layer, may_precede, within_fin
 use Rattle.policy_rules.specs.Types.{fits}
 use Rattle.policy_rules.specs.declared.context.Context.{Context}
 use Rattle.policy_rules.specs.declared.types.NamedType.TheVariants as ty
-use Rattle.policy_rules.specs.working.Inference.{◌>>=◌, is_action_block, is_command_block, only_if, struct_of}
-use Rattle.policy_rules.specs.working.Judging.{Judged, arms_are, block_is, else_is, finish_stmt_is, finish_stmts_are, holds, judged, judged_layer, precedes}
+use Rattle.policy_rules.specs.Inference.{◌>>=◌, is_action_block, is_command_block, only_if, struct_of}
+use Rattle.policy_rules.specs.Judging.{Judged, arms_are, block_is, else_is, finish_stmt_is, finish_stmts_are, holds, judged, judged_layer, precedes}
 use Rattle.policy_infer.specs.working.Behind.{are_arms, are_stmts, behind, finish_are, finish_is, finishes, is_bool_of, is_else, mapped, matches_of, publishes_of, returns_of}
 use Rattle.policy_infer.specs.working.Types.{introduced, pattern_type, type_of}
 

@@ -19,8 +19,8 @@ use Rattle.policy_rules.specs.Scopes.{Scope}
 use Rattle.policy_rules.specs.Statements.{is_last_layer, may_precede}
 use Rattle.policy_rules.specs.declared.context.Context.{Context}
 use Rattle.policy_rules.specs.declared.types.NamedType.{NamedType}
-use Rattle.policy_rules.specs.working.Inference.{◌>>=◌, only_if}
-use Rattle.policy_rules.specs.working.Judging.{holds}
+use Rattle.policy_rules.specs.Inference.{◌>>=◌, only_if}
+use Rattle.policy_rules.specs.Judging.{holds}
 
 -- ---- one statement
 

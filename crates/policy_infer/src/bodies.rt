@@ -3,7 +3,7 @@
 ghost use Rattle.std.specs.Prelude.{◌≡◌, true, Bool, IfOk, OnOk, length, take};
 ghost use Rattle.policy_rules.specs.FieldLists.{are_distinct};
 ghost use Rattle.policy_rules.specs.Scopes.{names_in};
-ghost use Rattle.policy_rules.specs.working.Judging.{body_is, finish_stmts_are};
+ghost use Rattle.policy_rules.specs.Judging.{body_is, finish_stmts_are};
 ghost use Rattle.policy_infer.specs.working.Answers.{Allows};
 
 use crate::finish::finish_stmts;

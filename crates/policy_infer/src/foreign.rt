@@ -3,7 +3,7 @@
 ghost use Rattle.std.specs.Prelude.{◌≡◌, Some};
 ghost use Rattle.policy_rules.specs.Expressions.{is_device_call, is_envelope_call};
 ghost use Rattle.policy_rules.specs.declared.types.NamedType.TheVariants as ty;
-ghost use Rattle.policy_rules.specs.working.Inference.{is_foreign_call, is_one_envelope, only_if};
+ghost use Rattle.policy_rules.specs.Inference.{is_foreign_call, is_one_envelope, only_if};
 ghost use Rattle.policy_infer.specs.working.Answers.{Judges};
 ghost use Rattle.policy_infer.specs.working.Types.{are_envelopes, is_envelope};
 

@@ -6,7 +6,7 @@ ghost use Rattle.policy_rules.specs.Scopes.{is_kept_envelope, name_type};
 ghost use Rattle.policy_rules.specs.Heads.{literal_type};
 ghost use Rattle.policy_rules.specs.declared.types.NamedType.{NamedType};
 ghost use Rattle.policy_rules.specs.declared.types.NamedType.TheVariants as ty;
-ghost use Rattle.policy_rules.specs.working.Inference.{calculation_of, choice_of, compare_of, inner_of, logic_of, only_if, presence_of, unary_of};
+ghost use Rattle.policy_rules.specs.Inference.{calculation_of, choice_of, compare_of, inner_of, logic_of, only_if, presence_of, unary_of};
 ghost use Rattle.policy_infer.specs.working.Answers.{Allows, Judges};
 ghost use Rattle.policy_infer.specs.working.Parts.{joined_of, struct_found};
 

@@ -3,7 +3,7 @@
 ghost use Rattle.std.specs.Prelude.{◌≡◌, ◌&&◌, Bool, Option};
 ghost use Rattle.std.specs.Option.{is_some};
 ghost use Rattle.policy_rules.specs.declared.types.NamedType.{NamedType};
-ghost use Rattle.policy_rules.specs.working.Inference.{is_bool, is_int, only_if};
+ghost use Rattle.policy_rules.specs.Inference.{is_bool, is_int, only_if};
 ghost use Rattle.policy_infer.specs.working.Answers.{Allows, Judges};
 ghost use Rattle.policy_infer.specs.working.Behind.{is_bool_of};
 ghost use Rattle.policy_infer.specs.working.Parts.{is_number_of};

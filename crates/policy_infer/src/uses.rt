@@ -5,7 +5,7 @@ ghost use Rattle.policy_rules.specs.Expressions.{count_type, is_positive, value_
 ghost use Rattle.policy_rules.specs.Scopes.{may_introduce};
 ghost use Rattle.policy_rules.specs.declared.types.NamedType.{NamedType};
 ghost use Rattle.policy_rules.specs.declared.types.NamedType.TheVariants as ty;
-ghost use Rattle.policy_rules.specs.working.Inference.{call_of, field_of, only_if, struct_literal_of, with_pattern};
+ghost use Rattle.policy_rules.specs.Inference.{call_of, field_of, only_if, struct_literal_of, with_pattern};
 ghost use Rattle.policy_infer.specs.working.Answers.{Allows, Judges, Keeps, Leads};
 ghost use Rattle.policy_infer.specs.working.Parts.{field_type, is_row_of};
 ghost use Rattle.policy_infer.specs.working.Types.{introduced};

@@ -5,7 +5,7 @@ use Rattle.base_bytes.specs.declared.ty.Ty.TheVariants as ty
 use Rattle.base_bytes.specs.declared.value.Value.{Value}
 use Rattle.policy_ast.specs.declared.item.Item.{Item}
 use Rattle.policy_meaning.specs.Commands.{Content, call_by, command_number}
-use Rattle.policy_meaning.specs.working.Payloads.{fields_of, payload_fields, read_value}
+use Rattle.policy_meaning.specs.Payloads.{fields_of, payload_fields, read_value}
 use Rattle.policy_meaning.specs.declared.call.Call.{Call}
 use Rattle.policy_rules.specs.Shapes.{shapes_of}
 

@@ -16,7 +16,7 @@ use Rattle.base_bytes.specs.declared.ty.Ty.TheVariants as ty
 use Rattle.base_bytes.specs.declared.value.Value.{Value, fold_out-Value, map-Value, out-Value, roll-Value, roll-out-Value}
 use Rattle.base_bytes.specs.declared.value.Value.TheOpen.{Value-F}
 use Rattle.base_bytes.specs.declared.value.Value.TheVariants as value
-use Rattle.base_bytes.specs.working.Decoding.{value_at}
+use Rattle.base_bytes.specs.Decoding.{value_at}
 use Rattle.command.specs.Wire.{command_id}
 use Rattle.policy_ast.specs.declared.item.Item.{Item}
 use Rattle.policy_ast.specs.declared.policy.PlacedItem.{PlacedItem}
@@ -25,7 +25,7 @@ use Rattle.policy_meaning.specs.Commands.{AreSpelled, Content, IsCallBy, IsCallO
 use Rattle.policy_meaning.specs.Laws.{CommandsHaveOneCall, HasBytes}
 use Rattle.policy_meaning.specs.Values.{struct_layer}
 use Rattle.policy_meaning.specs.declared.call.Call.{Call}
-use Rattle.policy_meaning.specs.working.Payloads.{fields_of, payload_fields, read_value}
+use Rattle.policy_meaning.specs.Payloads.{fields_of, payload_fields, read_value}
 use Rattle.policy_rules.proofs.Finding.{same_some}
 use Rattle.policy_rules.specs.Shapes.{shapes_of}
 use Rattle.policy_rules.specs.WellTyped.{items_of}

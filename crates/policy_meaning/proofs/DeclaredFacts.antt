@@ -18,7 +18,7 @@ use Rattle.base_bytes.specs.declared.value.Value.TheOpen.{Value-F}
 use Rattle.policy_ast.specs.declared.item.Item.{Item}
 use Rattle.policy_ast.specs.declared.item.Item.TheVariants as item
 use Rattle.policy_meaning.specs.Commands.{command_number}
-use Rattle.policy_meaning.specs.working.Payloads.{fields_of}
+use Rattle.policy_meaning.specs.Payloads.{fields_of}
 use Rattle.policy_meaning.specs.Typed.{holds_at, is_command_of}
 use Rattle.policy_meaning.specs.Values.{struct_layer}
 use Rattle.policy_rules.specs.Heads.{is_command, names_item}

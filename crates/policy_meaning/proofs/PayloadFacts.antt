@@ -13,11 +13,11 @@ use Rattle.base_bytes.specs.declared.ty.Ty.{Ty}
 use Rattle.base_bytes.specs.declared.ty.Ty.TheVariants as ty
 use Rattle.base_bytes.specs.declared.value.Value.{Value}
 use Rattle.base_bytes.specs.declared.value.Value.TheVariants as value
-use Rattle.base_bytes.specs.working.Decoding.{value_at}
+use Rattle.base_bytes.specs.Decoding.{value_at}
 use Rattle.base_bytes.proofs.Formats.{AreBytes}
 use Rattle.base_bytes.proofs.Payloads.{is_payload, read_whole}
 use Rattle.policy_ast.specs.declared.item.Item.{Item}
-use Rattle.policy_meaning.specs.working.Payloads.{fields_of, payload_fields, read_value}
+use Rattle.policy_meaning.specs.Payloads.{fields_of, payload_fields, read_value}
 use Rattle.policy_meaning.specs.Values.{struct_layer}
 use Rattle.policy_rules.specs.Shapes.{shapes_of}
 

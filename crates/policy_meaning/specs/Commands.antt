@@ -14,7 +14,7 @@ use Rattle.policy_meaning.specs.Applying.{Ended, Passes, Checks, Faults}
 use Rattle.policy_meaning.specs.Blocks.{policy_block, recall_block}
 use Rattle.policy_meaning.specs.declared.call.Call.{Call}
 use Rattle.policy_meaning.specs.declared.effect.Effect.{Effect}
-use Rattle.policy_meaning.specs.working.Payloads.{payload_fields}
+use Rattle.policy_meaning.specs.Payloads.{payload_fields}
 use Rattle.policy_rules.specs.Heads.{is_command, names_item}
 use Rattle.policy_rules.specs.Names.{Name, number_named}
 use Rattle.policy_rules.specs.Shapes.{shapes_of}

@@ -13,6 +13,7 @@ pub mod Blocks
 pub mod Typed
 pub mod Actions
 pub mod Desks
+pub mod Payloads
 pub mod Commands
 pub mod Resolving
 pub mod Laws

@@ -1,3 +1,2 @@
 -- What the bodies of this crate's calls go by; private contracts alone cite it.
-pub mod Payloads
 pub mod Resolutions

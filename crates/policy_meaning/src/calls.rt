@@ -6,7 +6,7 @@ ghost use Rattle.base_bytes.specs.Values.{are_fields, has_type, shape_at};
 ghost use Rattle.base_bytes.specs.declared.ty.Ty.TheVariants as ty;
 ghost use Rattle.command.specs.Wire.{IsInForm};
 ghost use Rattle.policy_meaning.specs.Commands.{IsCallBy, IsCallOf, call_by, call_of, command_number};
-ghost use Rattle.policy_meaning.specs.working.Payloads.{fields_of, payload_fields, read_value};
+ghost use Rattle.policy_meaning.specs.Payloads.{fields_of, payload_fields, read_value};
 ghost use Rattle.policy_meaning.specs.Typed.{IsCommandOf, holds_at, is_command_of};
 ghost use Rattle.policy_rules.specs.Shapes.{shapes_of};
 ghost use Rattle.policy_rules.specs.WellTyped.{items_of};

@@ -20,7 +20,7 @@ use Rattle.policy_rules.specs.Items.{in_action, in_command}
 use Rattle.policy_rules.specs.Names.{Name}
 use Rattle.policy_rules.specs.Scopes.{Scope}
 use Rattle.policy_rules.specs.declared.types.NamedType.TheVariants as ty
-use Rattle.policy_rules.specs.working.Inference.{found}
+use Rattle.policy_rules.specs.Inference.{found}
 
 -- enum Role { Owner, Member }  struct Pair { a int, b bool }  fact User[user id, n int]=>{role enum Role}  function twice(n int) int { .. }
 -- let limit = 3  let Pair = true  command Put { fields { n int } .. }

@@ -35,7 +35,7 @@ use Rattle.policy_rules.specs.declared.context.Context.{Context}
 use Rattle.policy_rules.specs.declared.types.NamedType.{NamedType, out-NamedType, roll-NamedType, roll-out-NamedType}
 use Rattle.policy_rules.specs.declared.types.NamedType.TheOpen.{NamedType-F}
 use Rattle.policy_rules.specs.declared.types.NamedType.TheVariants as ty
-use Rattle.policy_rules.specs.working.Inference.{Found, all_types, block_type, compared_type, else_type, envelope_layer, found, found_layer, gap_types, inferred, inner_layer, inner_of, introduced, is_action_block, is_bool, is_bool_layer, is_command_block, is_foreign_call, is_int, is_int_layer, is_nothing, is_one_envelope, only_if, pattern_of, struct_layer, struct_of, type_layer, unary_type}
+use Rattle.policy_rules.specs.Inference.{Found, all_types, block_type, compared_type, else_type, envelope_layer, found, found_layer, gap_types, inferred, inner_layer, inner_of, introduced, is_action_block, is_bool, is_bool_layer, is_command_block, is_foreign_call, is_int, is_int_layer, is_nothing, is_one_envelope, only_if, pattern_of, struct_layer, struct_of, type_layer, unary_type}
 
 -- ---- taking answers apart
 

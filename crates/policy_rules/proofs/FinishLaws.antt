@@ -28,8 +28,8 @@ use Rattle.policy_rules.specs.Scopes.{Scope}
 use Rattle.policy_rules.specs.declared.context.Context.{Context}
 use Rattle.policy_rules.specs.declared.types.NamedType.{NamedType}
 use Rattle.policy_rules.specs.declared.types.NamedType.TheVariants as ty
-use Rattle.policy_rules.specs.working.Inference.{Found, found, found_free, found_gap, found_layer, found_pattern, found_values, inferred, pattern_of, struct_of, types_within}
-use Rattle.policy_rules.specs.working.Judging.{finish_stmt_is, finish_stmts_are, holds, is_pattern_within, keys_bound, values_bound}
+use Rattle.policy_rules.specs.Inference.{Found, found, found_free, found_gap, found_layer, found_pattern, found_values, inferred, pattern_of, struct_of, types_within}
+use Rattle.policy_rules.specs.Judging.{finish_stmt_is, finish_stmts_are, holds, is_pattern_within, keys_bound, values_bound}
 
 pub some_then : {A P : Type 0} (o : Option A) → is_some o ≡ true → ((x : A) → o ≡ Some x → P) → P
 some_then None is go = absurd (false≢true is)

@@ -18,7 +18,7 @@ use Rattle.policy_rules.specs.declared.context.Block.TheVariants as block
 use Rattle.policy_rules.specs.declared.context.Context.{Context}
 use Rattle.policy_rules.specs.declared.types.NamedType.{NamedType}
 use Rattle.policy_rules.specs.declared.types.NamedType.TheVariants as ty
-use Rattle.policy_rules.specs.working.Inference.{Found, all_types, block_type, else_type, found, found_layer, gap_types, inferred, inner_layer, inner_of, introduced, is_action_block, is_bool, is_bool_layer, is_command_block, is_foreign_call, is_int, is_int_layer, is_nothing, is_one_envelope, pattern_of, struct_layer, struct_of, type_layer}
+use Rattle.policy_rules.specs.Inference.{Found, all_types, block_type, else_type, found, found_layer, gap_types, inferred, inner_layer, inner_of, introduced, is_action_block, is_bool, is_bool_layer, is_command_block, is_foreign_call, is_int, is_int_layer, is_nothing, is_one_envelope, pattern_of, struct_layer, struct_of, type_layer}
 
 -- ---- what a type is
 

@@ -11,7 +11,7 @@ use Rattle.policy_rules.specs.Items.{IsItem}
 use Rattle.policy_rules.specs.Laws.{AreJudged, HasOneVerdict}
 use Rattle.policy_rules.specs.Names.{Name, names_of}
 use Rattle.policy_rules.specs.WellTyped.{HasTypeFault, IsWellTyped, IsWellTypedAt, items_of}
-use Rattle.policy_rules.specs.working.ItemJudging.{item_is}
+use Rattle.policy_rules.specs.ItemJudging.{item_is}
 
 pub are_judged : (items : List Item) → AreJudged items
 are_judged items = record {

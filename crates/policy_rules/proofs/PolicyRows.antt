@@ -35,7 +35,7 @@ use Rattle.policy_rules.specs.WellTyped.{IsWellTypedAt}
 use Rattle.policy_rules.specs.declared.context.Context.{Context}
 use Rattle.policy_rules.specs.declared.types.NamedType.{NamedType}
 use Rattle.policy_rules.specs.declared.types.NamedType.TheVariants as ty
-use Rattle.policy_rules.specs.working.Inference.{found}
+use Rattle.policy_rules.specs.Inference.{found}
 
 ruleset row_rules = (fitting_rules, tree_rules)
 

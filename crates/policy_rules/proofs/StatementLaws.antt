@@ -26,8 +26,8 @@ use Rattle.policy_rules.specs.Statements.{AreArms, IsBlock, IsElse, IsStmt, IsSt
 use Rattle.policy_rules.specs.Types.{fits}
 use Rattle.policy_rules.specs.declared.context.Context.{Context}
 use Rattle.policy_rules.specs.declared.types.NamedType.TheVariants as ty
-use Rattle.policy_rules.specs.working.Inference.{inferred, is_action_block, is_bool, is_command_block, struct_of}
-use Rattle.policy_rules.specs.working.Judging.{Judged, arms_are, behind_layer, block_is, else_is, finish_stmts_are, is_bool_within, is_pattern_within, judged, judged_layer, precedes}
+use Rattle.policy_rules.specs.Inference.{inferred, is_action_block, is_bool, is_command_block, struct_of}
+use Rattle.policy_rules.specs.Judging.{Judged, arms_are, behind_layer, block_is, else_is, finish_stmts_are, is_bool_within, is_pattern_within, judged, judged_layer, precedes}
 
 module _ (items : List Item) (context : Context) where
   abbrev judge : Stmt → Judged

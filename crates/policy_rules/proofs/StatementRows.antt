@@ -21,8 +21,8 @@ use Rattle.policy_ast.specs.declared.statement.Stmt.TheVariants as stmt
 use Rattle.policy_rules.proofs.Fits.{fitting_rules}
 use Rattle.policy_rules.proofs.Folds.{tree_rules}
 use Rattle.policy_rules.specs.Names.{Name}
-use Rattle.policy_rules.specs.working.Inference.{inferred}
-use Rattle.policy_rules.specs.working.ItemJudging.{item_is}
+use Rattle.policy_rules.specs.Inference.{inferred}
+use Rattle.policy_rules.specs.ItemJudging.{item_is}
 
 abbrev field : Name → FieldType → Field
 field name t = record { name = name; field_type = t }

@@ -12,9 +12,9 @@ use Rattle.policy_rules.specs.Statements.{IsStmt}
 use Rattle.policy_rules.specs.WellTyped.{HasTypeFault, IsWellTyped}
 use Rattle.policy_rules.specs.declared.context.Context.{Context}
 use Rattle.policy_rules.specs.declared.types.NamedType.{NamedType}
-use Rattle.policy_rules.specs.working.Inference.{inferred}
-use Rattle.policy_rules.specs.working.ItemJudging.{item_is}
-use Rattle.policy_rules.specs.working.Judging.{judged}
+use Rattle.policy_rules.specs.Inference.{inferred}
+use Rattle.policy_rules.specs.ItemJudging.{item_is}
+use Rattle.policy_rules.specs.Judging.{judged}
 
 -- An expression has at most one type in a scope, and it is the type that is inferred.
 pub record HasOneType (items : List Item) (context : Context) (scope : Scope) (e : Expr) : Type 0 where

@@ -15,5 +15,7 @@ pub mod Commands
 pub mod Items
 pub mod WellTyped
 pub mod ExistingTypes
-pub mod working
+pub mod Inference
+pub mod Judging
+pub mod ItemJudging
 pub mod Laws

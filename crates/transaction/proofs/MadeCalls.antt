@@ -18,7 +18,7 @@ use Rattle.policy_meaning.specs.Commands.{Content, Pass, call_by, call_judged, c
 use Rattle.policy_meaning.specs.Typed.{IsCommandOf}
 use Rattle.policy_meaning.specs.declared.call.Call.{Call}
 use Rattle.policy_meaning.specs.declared.effect.Effect.{Effect}
-use Rattle.policy_meaning.specs.working.Payloads.{payload_fields}
+use Rattle.policy_meaning.specs.Payloads.{payload_fields}
 use Rattle.policy_meaning.proofs.DeclaredFacts.{named_at}
 use Rattle.policy_meaning.proofs.NumberFacts.{own_number}
 use Rattle.policy_meaning.proofs.PayloadFacts.{fields_read}

@@ -19,6 +19,10 @@ pub record Basis : Type 0 where
   pub author : List ℕ
   pub held : List Command
 
+-- the same of its parts
+abbrev pub basis_of : List PlacedItem → List ℕ → (List ℕ → List ℕ → List ℕ → Bool) → Option (List ℕ → List ℕ → List ℕ) → List ℕ → List Command → Basis
+basis_of policy digest good told author held = record { policy = policy; digest = digest; good = good; told = told; author = author; held = held }
+
 -- What an action has made so far: the ids of the heads as they are then, ascending; the new commands; an entry for each that is no merge; and
 -- why a command was refused, where one was.
 pub record Draft : Type 0 where

@@ -9,7 +9,8 @@ ghost use Rattle.transaction.specs.Acting.{Answers, RunsBody, acted};
 ghost use Rattle.transaction.specs.Drafts.{first_draft};
 ghost use Rattle.transaction.specs.Seals.{IsPublish};
 ghost use Rattle.transaction.specs.declared.fault.ActFault.TheVariants as fault;
-ghost use Rattle.transaction.specs.working.Sealing.{HasSealCause, basis_of};
+ghost use Rattle.transaction.specs.Drafts.{basis_of};
+ghost use Rattle.transaction.specs.working.Sealing.{HasSealCause};
 
 use crate::ActFault;
 use crate::desk::Counter;

@@ -27,7 +27,8 @@ impl<'a, R: Runner, G: Graph, E: Envelope, F: FactBase> Desk<F> for Counter<'a, 
     ghost use Rattle.std.specs.Prelude.{◌≡◌};
     ghost use Rattle.std.proofs.Common.{◌∙◌, refl};
     ghost use Rattle.transaction.specs.Seals.{IsPublish};
-    ghost use Rattle.transaction.specs.working.Sealing.{HasSealCause, basis_of};
+    ghost use Rattle.transaction.specs.Drafts.{basis_of};
+    ghost use Rattle.transaction.specs.working.Sealing.{HasSealCause};
     ghost use Rattle.transaction.specs.working.SealLaws.{cause_itself, cause_on};
 
     ghost policy = { λ desk. R.rules desk.runner.now };

@@ -7,7 +7,7 @@ ghost use Rattle.policy_rules.specs.WellTyped.{IsWellTyped};
 ghost use Rattle.transaction.specs.Acting.{Acts, Answers};
 ghost use Rattle.transaction.specs.Applying.{IsPublishedOn, IsReady};
 ghost use Rattle.transaction.specs.declared.fault.ActFault.TheVariants as fault;
-ghost use Rattle.transaction.specs.working.Sealing.{basis_of};
+ghost use Rattle.transaction.specs.Drafts.{basis_of};
 
 use crate::ActFault;
 use crate::acting::{Prepared, act_on};

@@ -9,7 +9,8 @@ ghost use Rattle.policy_meaning.specs.Desks.{Publishes, Stay};
 ghost use Rattle.policy_meaning.specs.Typed.{AreTyped, IsCommandOf};
 ghost use Rattle.transaction.specs.Publishing.{checked, command_of, declared_at, has_head, is_misplaced, judged, new_command, parent_of};
 ghost use Rattle.transaction.specs.Seals.{IsPublish, Leaves};
-ghost use Rattle.transaction.specs.working.Sealing.{Ends, EndsSealed, HasSealCause, IsSealed, SealRose, basis_of};
+ghost use Rattle.transaction.specs.Drafts.{basis_of};
+ghost use Rattle.transaction.specs.working.Sealing.{Ends, EndsSealed, HasSealCause, IsSealed, SealRose};
 
 use crate::ActFault;
 use crate::declared::{Declared, declared_command, payload_of, text_of};

@@ -1,7 +1,8 @@
 //! The steps of a seat at the table.
 ghost use Rattle.std.specs.Prelude.{◌≡◌, ◌+◌, ◌-◌, ◌^◌, ◌<◌, [], ◌∷◌, true, false, Some, None};
 ghost use Rattle.turn_lock.specs.Turns.{IsIn, turns_by, count_of, Continues, AddsOne};
-ghost use Rattle.turn_lock.specs.working.Steps.{numbered, with_ticket, inside_view, left_view, split_view, joined, merged, past};
+ghost use Rattle.turn_lock.specs.Seats.{past};
+ghost use Rattle.turn_lock.specs.working.Steps.{numbered, with_ticket, inside_view, left_view, split_view, joined, merged};
 
 use crate::kept::Kept;
 use crate::steps::{Cut, Glue, InTurn, Look, Number, Release, Same, Settle, Ticket};

@@ -13,7 +13,7 @@ pub struct Pass<T: Kept> {
 
 impl<T: Kept> Model for Pass<T> {
     ghost use Rattle.turn_lock.specs.Callers.{Caller};
-    ghost use Rattle.turn_lock.specs.working.Steps.{caller_of, IsPass};
+    ghost use Rattle.turn_lock.specs.Seats.{caller_of, IsPass};
 
     ghost Value = { Caller T.Turn T.Opening };
 

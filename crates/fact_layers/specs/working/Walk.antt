@@ -10,7 +10,7 @@ use Rattle.fact_store.specs.declared.row.Row.{Row}
 use Rattle.fact_store.specs.declared.wanted.Wanted.{Wanted}
 use Rattle.fact_store.specs.Matching.{has_named, selected}
 use Rattle.fact_store.specs.Rows.{place_order}
-use Rattle.fact_store.specs.working.Stored.{row_of}
+use Rattle.fact_store.specs.Stored.{row_of}
 use Rattle.fact_layers.specs.working.Nearest.{is_behind}
 
 -- Where the row stands.

@@ -12,7 +12,7 @@ use Rattle.journal.specs.declared.commit.Commit.{Commit}
 use Rattle.std.specs.declared.alloc.Global.{Global}
 use Rattle.journal.specs.Journal.{AreOf, OpenFailsWith, WasOrReadsAlike}
 use Rattle.journal.specs.Outline.{outline_of}
-use Rattle.journal.specs.working.Ends.{outline_at}
+use Rattle.journal.specs.Ends.{outline_at}
 use Rattle.journal.specs.working.Scanning.{Keeps}
 use Rattle.journal.specs.declared.end.End.{End}
 use Rattle.journal.specs.declared.found.Found.{Found}

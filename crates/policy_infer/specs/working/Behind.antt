@@ -23,8 +23,8 @@ use Rattle.policy_rules.specs.declared.context.Context.{Context}
 use Rattle.policy_rules.specs.declared.types.Named.{Named}
 use Rattle.policy_rules.specs.declared.types.NamedType.{NamedType}
 use Rattle.policy_rules.specs.declared.types.NamedType.TheVariants as ty
-use Rattle.policy_rules.specs.working.Inference.{◌>>=◌, is_action_block, is_bool, is_command_block, only_if, struct_of}
-use Rattle.policy_rules.specs.working.Judging.{holds, judged}
+use Rattle.policy_rules.specs.Inference.{◌>>=◌, is_action_block, is_bool, is_command_block, only_if, struct_of}
+use Rattle.policy_rules.specs.Judging.{holds, judged}
 use Rattle.policy_infer.specs.working.Types.{bind_types, pattern_type, type_of, types_of}
 
 -- each key of a fact in order, by the types that were found

@@ -7,8 +7,8 @@ use Rattle.policy_rules.specs.Names.{Name}
 use Rattle.policy_rules.specs.Scopes.{type_in}
 use Rattle.policy_rules.specs.Types.{joined}
 use Rattle.policy_rules.specs.declared.types.NamedType.{NamedType}
-use Rattle.policy_rules.specs.working.Inference.{◌>>=◌, is_int, struct_of}
-use Rattle.policy_rules.specs.working.Judging.{holds}
+use Rattle.policy_rules.specs.Inference.{◌>>=◌, is_int, struct_of}
+use Rattle.policy_rules.specs.Judging.{holds}
 
 -- what the operations on numbers take
 abbrev pub is_number_of : Option NamedType → Bool

@@ -16,7 +16,7 @@ use Rattle.policy_rules.specs.Names.{Name}
 use Rattle.policy_rules.specs.Scopes.{Scope, may_introduce, with_name}
 use Rattle.policy_rules.specs.declared.context.Context.{Context}
 use Rattle.policy_rules.specs.declared.types.NamedType.{NamedType}
-use Rattle.policy_rules.specs.working.Inference.{◌>>=◌, inferred, only_if, with_pattern}
+use Rattle.policy_rules.specs.Inference.{◌>>=◌, inferred, only_if, with_pattern}
 
 -- one layer of an expression is the name `envelope`
 abbrev pub is_envelope_layer : Expr-F Expr → Bool

@@ -13,9 +13,6 @@ use Rattle.transaction.specs.Seals.{IsSealOf, Leaves}
 use Rattle.transaction.specs.declared.fault.ActFault.{ActFault}
 use Rattle.transaction.specs.declared.fault.ActFault.TheVariants as fault
 
-abbrev pub basis_of : List PlacedItem → List ℕ → (List ℕ → List ℕ → List ℕ → Bool) → Option (List ℕ → List ℕ → List ℕ) → List ℕ → List Command → Basis
-basis_of policy digest good told author held = record { policy = policy; digest = digest; good = good; told = told; author = author; held = held }
-
 -- The command with a good tag, the told one where one is told; or none, and then the count of faults rose.
 abbrev pub IsSealed : (List ℕ → List ℕ → List ℕ → Bool) → Option (List ℕ → List ℕ → List ℕ) → List ℕ → (List ℕ → Command) → Option Command → ℕ → ℕ → Type 0
 IsSealed good told author command_with None before now = Rose before now

@@ -1,4 +1,4 @@
-use Rattle.base_bytes.specs.working.Decoding.{value_at, values_at}
+use Rattle.base_bytes.specs.Decoding.{value_at, values_at}
 use Rattle.base_bytes.proofs.InOrder.{next_read}
 use Rattle.base_bytes.proofs.decode.+decode.Goals as goal
 

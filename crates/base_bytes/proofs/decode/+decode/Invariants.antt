@@ -1,5 +1,5 @@
 use Rattle.std.proofs.Common.{◌≡◌, ◌+◌, drop}
-use Rattle.base_bytes.specs.working.Decoding.{values_at}
+use Rattle.base_bytes.specs.Decoding.{values_at}
 use Rattle.base_bytes.proofs.Rooms.{greatest, room, struct_room}
 use Rattle.base_bytes.proofs.InOrder.{with_front}
 use Rattle.base_bytes.proofs.decode.+decode.Given as goal

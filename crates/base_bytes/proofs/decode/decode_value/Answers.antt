@@ -1,6 +1,6 @@
 use Rattle.std.proofs.Common.{length}
 use Rattle.std.proofs.Common.{arith}
-use Rattle.base_bytes.specs.working.Decoding.{value_at}
+use Rattle.base_bytes.specs.Decoding.{value_at}
 use Rattle.base_bytes.specs.Payload.{IsPayload}
 use Rattle.base_bytes.proofs.Codes.{found_in_form, none_in_form}
 use Rattle.base_bytes.proofs.Payloads.{is_payload, read_whole}

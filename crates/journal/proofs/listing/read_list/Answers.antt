@@ -1,6 +1,6 @@
 use Rattle.std.proofs.Common.{◌≡◌, ◌∙◌, ◌++◌, ◌∷◌, [], ◌-◌, ◌≤◌, take, drop}
 use Rattle.journal.specs.Commits.{next_gate}
-use Rattle.journal.specs.working.Ends.{outline_at}
+use Rattle.journal.specs.Ends.{outline_at}
 use Rattle.journal.specs.working.Opening.{IsFirst}
 use Rattle.journal.specs.working.Scanning.{left}
 use Rattle.journal.proofs.Looking.{keeps_then}

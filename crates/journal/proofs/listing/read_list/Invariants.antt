@@ -1,6 +1,6 @@
 use Rattle.std.proofs.Common.{◌≡◌, ◌-◌, ◌<◌, ◌≤◌, IsTrue, List, length}
 use Rattle.journal.specs.Journal.{AreOf}
-use Rattle.journal.specs.working.Ends.{outline_at}
+use Rattle.journal.specs.Ends.{outline_at}
 use Rattle.journal.specs.working.Listing.{Lists}
 use Rattle.journal.specs.working.Scanning.{Keeps, left}
 use Rattle.journal.specs.declared.commit.Commit.{Commit}

@@ -1,5 +1,5 @@
 use Rattle.std.proofs.Common.{◌≡◌, drop}
-use Rattle.policy_rules.specs.working.ItemJudging.{sections_are}
+use Rattle.policy_rules.specs.ItemJudging.{sections_are}
 use Rattle.policy_check.proofs.commands.sections_are.Given as goal
 
 abbrev pub invariant-loop-section : goal.invariant-loop-section

@@ -3,8 +3,8 @@ use Rattle.policy_rules.specs.Heads.{type_exists}
 use Rattle.policy_rules.specs.Items.{are_parameters, in_action, in_finish_function, in_function}
 use Rattle.policy_rules.specs.Statements.{ends_in_return}
 use Rattle.policy_rules.specs.Types.{declared, written_type}
-use Rattle.policy_rules.specs.working.ItemJudging.{is_of_kind}
-use Rattle.policy_rules.specs.working.Judging.{body_is, finish_stmts_are}
+use Rattle.policy_rules.specs.ItemJudging.{is_of_kind}
+use Rattle.policy_rules.specs.Judging.{body_is, finish_stmts_are}
 use Rattle.policy_check.proofs.Scopes.{answer_same}
 use Rattle.policy_check.proofs.judge.is_of_kind.Goals as goal
 

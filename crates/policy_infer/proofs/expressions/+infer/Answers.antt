@@ -7,7 +7,7 @@ use Rattle.policy_infer.proofs.SoFar.{begins, ends, gap_turns, itself, lacks, le
 use Rattle.policy_infer.specs.working.Types.{bind_types, gap_type_of, gap_types_of, type_of, types_of}
 use Rattle.policy_rules.specs.Expressions.{count_type, is_positive, value_part}
 use Rattle.policy_rules.specs.declared.types.NamedType.TheVariants as ty
-use Rattle.policy_rules.specs.working.Inference.{calculation_of, call_of, choice_of, compare_of, field_of, logic_of, only_if, presence_of, struct_literal_of, unary_of, with_pattern}
+use Rattle.policy_rules.specs.Inference.{calculation_of, call_of, choice_of, compare_of, field_of, logic_of, only_if, presence_of, struct_literal_of, unary_of, with_pattern}
 use Rattle.policy_infer.proofs.expressions.+infer.Goals as goal
 
 pub infer-returns-in-Or : goal.infer-returns-in-Or

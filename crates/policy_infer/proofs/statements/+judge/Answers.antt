@@ -8,7 +8,7 @@ use Rattle.policy_infer.proofs.StatementLoops.{arm_stops, arms_begin, arms_end, 
 use Rattle.policy_infer.specs.declared.refusal.Refusal.TheVariants as refusal
 use Rattle.policy_infer.specs.working.Behind.{are_arms, are_stmts, behind, finishes, is_bool_of, is_else, mapped, matches_of, publishes_of, returns_of}
 use Rattle.policy_infer.specs.working.Types.{type_of}
-use Rattle.policy_rules.specs.working.Inference.{only_if}
+use Rattle.policy_rules.specs.Inference.{only_if}
 use Rattle.std.specs.Prelude.{Some}
 use Rattle.policy_infer.proofs.statements.+judge.Goals as goal
 

@@ -1,7 +1,7 @@
 use Rattle.std.proofs.Common.{◌≡◌, ap, refl, subst, ◌∙◌, rules}
 use Rattle.transaction.proofs.Runs.{runs_carried}
 use Rattle.transaction.specs.Seals.{IsPublish}
-use Rattle.transaction.specs.working.Sealing.{basis_of}
+use Rattle.transaction.specs.Drafts.{basis_of}
 use Rattle.transaction.proofs.acting.run_body.Goals as goal
 
 pub returns-clause-runs : goal.returns-clause-runs

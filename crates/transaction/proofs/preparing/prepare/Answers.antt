@@ -1,7 +1,7 @@
 use Rattle.std.proofs.Common.{◌++◌, rules, sym, subst}
 use Rattle.braid_run.specs.States.{IsStanding}
 use Rattle.transaction.specs.Applying.{graph_named}
-use Rattle.transaction.specs.working.Sealing.{basis_of}
+use Rattle.transaction.specs.Drafts.{basis_of}
 use Rattle.transaction.proofs.SoundFacts.{made_goes}
 use Rattle.transaction.proofs.Ticks.{made_ticks}
 use Rattle.transaction.proofs.preparing.prepare.Goals as goal

@@ -5,7 +5,7 @@ use Rattle.transaction.proofs.CommandFacts.{struct_short}
 use Rattle.transaction.proofs.PublishFacts.{all_published, refused, too_long}
 use Rattle.transaction.proofs.Tells.{opens_is, placed_still, refused_is}
 use Rattle.transaction.specs.Publishing.{declared_at, opened}
-use Rattle.transaction.specs.working.Sealing.{basis_of}
+use Rattle.transaction.specs.Drafts.{basis_of}
 use Rattle.transaction.specs.working.Steps.{Opens}
 use Rattle.transaction.proofs.publishing.publish_command.Goals as goal
 

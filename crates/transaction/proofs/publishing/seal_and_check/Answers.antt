@@ -1,6 +1,6 @@
 use Rattle.transaction.proofs.PublishFacts.{all_sealed}
 use Rattle.command_kinds.specs.Kinds.{kind_seen}
-use Rattle.transaction.specs.working.Sealing.{basis_of}
+use Rattle.transaction.specs.Drafts.{basis_of}
 use Rattle.transaction.proofs.publishing.seal_and_check.Goals as goal
 
 pub returns-in-Some-clause-ends : goal.returns-in-Some-clause-ends

@@ -1,6 +1,6 @@
 use Rattle.std.proofs.Common.{◌≡◌, ◌+◌, ◌≤◌, length}
 use Rattle.fact_store.specs.Matching.{selected}
-use Rattle.fact_store.specs.working.Stored.{rows_of}
+use Rattle.fact_store.specs.Stored.{rows_of}
 use Rattle.fact_store.proofs.Runs.{IsRun}
 use Rattle.fact_store.proofs.facts.FactsFactBase.count_up_to.Given as goal
 

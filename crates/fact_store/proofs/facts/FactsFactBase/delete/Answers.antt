@@ -1,7 +1,7 @@
 use Rattle.std.proofs.Common.{inr, sym, ap, ◌∙◌}
 use Rattle.fact_store.specs.declared.wanted.Wanted.{Wanted}
 use Rattle.fact_store.specs.Rows.{are_keys}
-use Rattle.fact_store.specs.working.Stored.{rows_of}
+use Rattle.fact_store.specs.Stored.{rows_of}
 use Rattle.fact_store.specs.Writes.{deleted}
 use Rattle.fact_store.proofs.Written.{delete-base, delete-done, delete-missing}
 use Rattle.fact_store.proofs.facts.FactsFactBase.delete.Goals as goal

@@ -1,6 +1,6 @@
 use Rattle.std.proofs.Common.{◌++◌, append-nil, sym, ap, ◌∙◌}
 use Rattle.fact_store.specs.Matching.{selected}
-use Rattle.fact_store.specs.working.Stored.{rows_of}
+use Rattle.fact_store.specs.Stored.{rows_of}
 use Rattle.fact_store.proofs.Runs.{run_begins, run_over, run_selects}
 use Rattle.fact_store.proofs.facts.FactsFactBase.select.Goals as goal
 

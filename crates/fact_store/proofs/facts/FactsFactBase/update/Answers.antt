@@ -1,6 +1,6 @@
 use Rattle.std.proofs.Common.{◌≡◌, inr, sym, ap, ◌∙◌}
 use Rattle.fact_store.specs.Matching.{has_named}
-use Rattle.fact_store.specs.working.Stored.{rows_of}
+use Rattle.fact_store.specs.Stored.{rows_of}
 use Rattle.fact_store.proofs.Written.{update-base, update-differs, update-done, update-kept, update-missing}
 use Rattle.fact_store.proofs.facts.FactsFactBase.update.Goals as goal
 

@@ -1,5 +1,5 @@
 use Rattle.std.proofs.Common.{◌∙◌}
-use Rattle.journal.specs.working.Ends.{outline_at}
+use Rattle.journal.specs.Ends.{outline_at}
 use Rattle.journal.proofs.Committed.{committed_leaves, committed_settled}
 use Rattle.journal.proofs.journal.Journal.commit.Goals as goal
 

@@ -1,4 +1,4 @@
--- How a value of a type is read. This serves the contracts of the decoder and the proofs alone: what a payload is stands in Payload.
+-- How a value of a type is read of its bytes. What a payload is stands in Payload; here its spelling is taken apart again.
 use Rattle.std.specs.Prelude.{ℕ, zero, suc, List, map, Some, None}
 use Rattle.std.specs.Int.{w8, w16, w32, w64, cast_signed}
 use Rattle.std.specs.Str.{is_utf8}

@@ -21,7 +21,7 @@ use Rattle.policy_rules.specs.Statements.{is_last_layer, within_finish}
 use Rattle.policy_rules.specs.Types.{fits}
 use Rattle.policy_rules.specs.declared.context.Context.{Context}
 use Rattle.policy_rules.specs.declared.types.NamedType.TheVariants as ty
-use Rattle.policy_rules.specs.working.Inference.{◌>>=◌, found_pattern, inferred, is_action_block, is_bool, is_command_block, only_if, pattern_of, struct_of, types_within}
+use Rattle.policy_rules.specs.Inference.{◌>>=◌, found_pattern, inferred, is_action_block, is_bool, is_command_block, only_if, pattern_of, struct_of, types_within}
 
 -- There is something, and it passes a test.
 abbrev pub holds : {A : Type 0} → Option A → (A → Bool) → Bool

@@ -1,12 +1,11 @@
--- How the fields of a command are found in its payload: by reading it. This serves the definition of the one call that a command is; which call that is, is
--- said by the spelling of values alone, in Commands.
+-- How the fields of a command are found in its payload: by reading it. The definition of the one call that a command is goes by it (Commands).
 use Rattle.std.specs.Prelude.{ℕ, List, length, Option, option_map, option_and_then}
 use Rattle.base_bytes.specs.Reading.{ended}
 use Rattle.base_bytes.specs.declared.shapes.Shapes.{Shapes}
 use Rattle.base_bytes.specs.declared.ty.Ty.{Ty}
 use Rattle.base_bytes.specs.declared.ty.Ty.TheVariants as ty
 use Rattle.base_bytes.specs.declared.value.Value.{Value}
-use Rattle.base_bytes.specs.working.Decoding.{value_at}
+use Rattle.base_bytes.specs.Decoding.{value_at}
 use Rattle.policy_ast.specs.declared.item.Item.{Item}
 use Rattle.policy_meaning.specs.Values.{struct_parts}
 use Rattle.policy_rules.specs.Shapes.{shapes_of}

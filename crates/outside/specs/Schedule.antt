@@ -1,7 +1,7 @@
 -- What contracts see of the schedule of an object in memory.
 use Rattle.std.specs.Prelude.{◌≡◌, ◌≤◌}
 use Rattle.outside.specs.Causes.{next_count}
-use Rattle.outside.specs.working.Count.{count_of}
+use Rattle.outside.specs.Count.{count_of}
 use Rattle.outside.specs.Plan.{Plan}
 use Rattle.outside.specs.declared.schedule.Schedule.{Schedule}
 

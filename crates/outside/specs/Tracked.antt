@@ -1,7 +1,7 @@
 -- What contracts see of bytes whose changes are recorded.
 use Rattle.std.specs.Prelude.{reverse}
 use Rattle.outside.specs.Disk.{Content}
-use Rattle.outside.specs.working.Replaced.{moment_after, past_after}
+use Rattle.outside.specs.Replaced.{moment_after, past_after}
 use Rattle.outside.specs.declared.tracked_bytes.TrackedBytes.{TrackedBytes}
 
 -- their content, as a disk's

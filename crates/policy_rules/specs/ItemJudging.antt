@@ -13,7 +13,7 @@ use Rattle.policy_rules.specs.Names.{Name, name_of}
 use Rattle.policy_rules.specs.Nesting.{may_nest}
 use Rattle.policy_rules.specs.Statements.{ends_in_return}
 use Rattle.policy_rules.specs.Types.{declared, written_type}
-use Rattle.policy_rules.specs.working.Judging.{body_is, finish_stmts_are}
+use Rattle.policy_rules.specs.Judging.{body_is, finish_stmts_are}
 
 module _ (items : List Item) where
   abbrev pub section_is : Name → Section → Bool
