@@ -8,10 +8,12 @@ use Rattle.command.specs.declared.command.Command.{Command}
 use Rattle.command.specs.Ancestors.{Ancestor, IsAt, IsParent, IsUnder, IsUpTo, heads, is_parent, places_without}
 use Rattle.command.specs.Ancestors.Ancestor.{Parent}
 use Rattle.command.specs.Closed.{IsClosed, IsHeld, IsNext}
+use Rattle.command.specs.Cuts.{cut_of_id}
 use Rattle.command.specs.Kinds.{parents_of}
 use Rattle.command.specs.Wire.{command_id}
 use Rattle.command.proofs.AncestorFacts.{ancestor_down, from_newest, under_down}
-use Rattle.command.proofs.ClosedFacts.{held_by, held_command, same_bytes}
+use Rattle.command.proofs.CutFacts.{cut_agrees, one_above_same}
+use Rattle.command.proofs.ClosedFacts.{held_by, held_command, same_by_id, same_bytes}
 use Rattle.command.proofs.KnownAncestors.{Known, ancestor_known, known_same}
 use Rattle.command.proofs.ListFacts.{at_head, behind_head, head_cases, each_before, each_last, each_more, from_end, none_element, one_element}
 use Rattle.command.proofs.PlaceFacts.{inside_at}
@@ -22,6 +24,7 @@ use Rattle.braid.proofs.Agreement.{one_braid}
 use Rattle.braid.proofs.Carrying.{in_one_list, same_braids}
 use Rattle.braid.proofs.Gathering.{place_of_member}
 use Rattle.braid.proofs.PickOrder.{one_at}
+use Rattle.braid.proofs.UnderFacts.{under_known, up_known}
 
 -- ---- a closure in a list of its own
 
@@ -42,57 +45,14 @@ module _ (cs : List Command) (tips : List ℕ) (part : List Command) (is : IsClo
 
 -- ---- there is such a list
 
-module _ (cs : List Command) (closed : IsClosed cs) where
-  up_known : (tip x : Command) → Contains cs tip → Contains cs x → Known (IsUpTo cs tip x)
-  up_known tip x there inside =
-      elim (known_same cs closed x tip inside there) [
-        | inl same ↦ inl (inl same)
-        | inr other ↦
-            elim (ancestor_known cs closed x tip inside there) [
-              | inl above ↦ inl (inr above)
-              | inr not_above ↦ inr (λ up. elim up [ inl same ↦ other same | inr above ↦ not_above above ])
-            ]
-      ]
-
-  abbrev IsUnderPlace : ℕ → Command → Type 0
-  IsUnderPlace place x = (tip : Command) × IsAt cs place tip × IsUpTo cs tip x
-
-  place_known : (place : ℕ) (x : Command) → Contains cs x → Known (IsUnderPlace place x)
-  place_known place x inside = by (slice_get cs place) refl
-    where
-      by : (o : Option Command) → slice_get cs place ≡ o → Known (IsUnderPlace place x)
-      by None is = inr (λ t. let both : None ≡ Some t.0 = sym is ∙ t.1 in absurd cc)
-      by (Some tip) is =
-          elim (up_known tip x (inside_at cs place tip is) inside) [
-            | inl up ↦ inl (tip, is, up)
-            | inr not_up ↦ inr (λ t. not_up (subst (λ z. IsUpTo cs z x) (same_Some t.0 tip (sym t.1 ∙ is)) t.2))
-          ]
-
-  under_known : (tips : List ℕ) (x : Command) → Contains cs x → Known (IsUnder cs tips x)
-  under_known [] x inside = inr (λ u. none_element u.0 u.1)
-  under_known (place ∷ tips) x inside =
-      elim (place_known place x inside) [
-        | inl here ↦ inl (place, at_head place tips, here)
-        | inr not_here ↦
-            elim (under_known tips x inside) [
-              | inl later ↦ inl (later.0, behind_head place tips later.0 later.1, later.2)
-              | inr not_later ↦
-                  inr
-                  (λ u. elim (head_cases place tips u.0 u.1) [
-                    | inl same ↦ not_here (subst (λ p. IsUnderPlace p x) (sym same) u.2)
-                    | inr behind ↦ not_later (u.0, behind, u.2)
-                  ])
-            ]
-      ]
-
 -- the commands of a closed list that meet a condition, which each parent of one meets
 module _ (cs : List Command) (P : Command → Type 0) (known : (x : Command) → Contains cs x → Known (P x)) (down : (m y : Command) → IsParent cs m y → P y → P m) where
   record IsPartOf (front part : List Command) : Type 0 where
     pub closed : IsClosed part
     pub holds : (x : Command) → Contains part x ↔ (Contains front x × P x)
 
-  with_one : (front part : List Command) (c : Command) → IsNext front c → ((x : Command) → Contains (front ++ c ∷ []) x → Contains cs x) → IsPartOf front part → P c → IsPartOf (front ++ c ∷ []) (part ++ c ∷ [])
-  with_one front part c next within is that = record {
+  with_one : (front part : List Command) (c : Command) → IsClosed front → IsNext front c → ((x : Command) → Contains (front ++ c ∷ []) x → Contains cs x) → IsPartOf front part → P c → IsPartOf (front ++ c ∷ []) (part ++ c ∷ [])
+  with_one front part c whole next within is that = record {
     closed =
         each_more IsNext part c is.closed
         (record {
@@ -108,6 +68,16 @@ module _ (cs : List Command) (P : Command → Type 0) (known : (x : Command) →
                 link = subst (λ i. Contains (parents_of c) i) (sym m.2) link;
               } in
               subst (λ i. IsHeld part i) m.2 (held_by part m.0 ((is.holds m.0).1 (m.1, down m.0 c e that)));
+          cut = λ stated told. next.cut stated told ∙ one_above_same (cut_of_id front) (cut_of_id part) (parents_of c) (λ id link.
+              let m = held_command front id (next.held id link) in
+              let e : IsParent cs m.0 c = record {
+                older = within m.0 (Contains-append_left front (c ∷ []) m.0 m.1);
+                newer = within c (Contains-push front c);
+                link = subst (λ i. Contains (parents_of c) i) (sym m.2) link;
+              } in
+              ap (cut_of_id front) (sym m.2)
+              ∙ sym (cut_agrees front whole part is.closed (λ x y h k. same_by_id front whole x y ((is.holds x).0 h).0 k) m.0 ((is.holds m.0).1 (m.1, down m.0 c e that)) m.1)
+              ∙ ap (cut_of_id part) m.2);
         });
     holds = λ x. (
       (λ h. elim (Contains-push_cases part c x h) [
@@ -139,7 +109,7 @@ module _ (cs : List Command) (P : Command → Type 0) (known : (x : Command) →
       (λ front c before closed within.
       let older = before (each_before IsNext front c closed) (λ x h. within x (Contains-append_left front (c ∷ []) x h)) in
       elim (known c (within c (Contains-push front c))) [
-        | inl that ↦ (older.0 ++ c ∷ [], with_one front older.0 c (each_last IsNext front c closed) within older.1 that)
+        | inl that ↦ (older.0 ++ c ∷ [], with_one front older.0 c (each_before IsNext front c closed) (each_last IsNext front c closed) within older.1 that)
         | inr other ↦ (older.0, without_one front older.0 c older.1 other)
       ])
 
@@ -170,7 +140,7 @@ module _ (cs : List Command) (closed : IsClosed cs) where
           let place = place_of_member cs closed y inside in
           (place.0, head_has (is_parent cs) 0 cs place.0 place.0 y (omega arith) place.1 is, (y, place.1, inl refl))
 
-  all_under : (x : Command) → Contains cs x → IsUnder cs (heads cs) x
+  pub all_under : (x : Command) → Contains cs x → IsUnder cs (heads cs) x
   all_under x inside = from_newest (λ y. IsUnder cs (heads cs) y) cs closed step x inside
 
   whole : (l : List Command) → IsBraid cs l ↔ IsBraidUnder cs (heads cs) l

@@ -160,7 +160,7 @@ without_shorter (c ∷ cs) t h =
 
 module _ (cs : List Command) (closed : IsClosed cs) where
   -- the rest can be placed
-  finish : (n : ℕ) (rest placed : List Command) → ((z : Command) → Contains rest z → Contains cs z) → length rest ≤ n → EachAfter (IsPlaced cs) rest placed →
+  pub finish : (n : ℕ) (rest placed : List Command) → ((z : Command) → Contains rest z → Contains cs z) → length rest ≤ n → EachAfter (IsPlaced cs) rest placed →
       (braid : List Command) × Each (IsPlaced cs) braid × ((z : Command) → Contains braid z ↔ Contains (rest ++ placed) z)
   finish n [] placed inside few order = (placed, order, (λ z. ((λ h. h), (λ h. h))))
   finish zero (x ∷ xs) placed inside few order = absurd (omega (arith, few))

@@ -15,16 +15,16 @@ use Rattle.braid.specs.Braids.{IsBraid, IsBraidTo, IsPlaced, IsTop}
 use Rattle.braid.specs.Lower.{IsLower}
 use Rattle.braid.specs.Agreeing.{IsFinal}
 
-no_merge : (f : Command) → is_finalize f ≡ true → is_merge f ≡ false
-no_merge (Init digest author name payload tag) is = refl
-no_merge (Basic priority parent author name payload tag) is = refl
-no_merge (Finalize parent author name payload tag) is = refl
-no_merge (Merge left right) is = absurd cc
+pub no_merge : (f : Command) → is_finalize f ≡ true → is_merge f ≡ false
+no_merge (Init cut digest author name payload tag) is = refl
+no_merge (Basic cut priority parent author name payload tag) is = refl
+no_merge (Finalize cut parent author name payload tag) is = refl
+no_merge (Merge cut left right) is = absurd cc
 
 below_finalize : (y f : Command) → is_finalize y ≡ false → is_finalize f ≡ true → IsLower y f
 below_finalize y f other is = IsLower.under_finalize other is
 
-finalize_cases : (c : Command) → (is_finalize c ≡ true) ⊎ (is_finalize c ≡ false)
+pub finalize_cases : (c : Command) → (is_finalize c ≡ true) ⊎ (is_finalize c ≡ false)
 finalize_cases c = by (is_finalize c) refl
   where
     by : (b : Bool) → is_finalize c ≡ b → (is_finalize c ≡ true) ⊎ (is_finalize c ≡ false)

@@ -12,8 +12,11 @@ pub mod Counts
 pub mod Numbers
 pub mod Turning
 pub mod Progress
+pub mod UnderFacts
 pub mod Gathering
 pub mod Linking
 pub mod Carrying
 pub mod Closures
 pub mod Appends
+pub mod BaseFacts
+pub mod Skipping

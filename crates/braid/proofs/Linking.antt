@@ -1,5 +1,5 @@
 -- Gathering a closure with the links of its commands, and counting the children.
-use Rattle.std.proofs.Common.{◌≡◌, ℕ, ◌+◌, ◌*◌, ◌<◌, ◌≤◌, inl, inr, false, List, [], ◌∷◌, ◌++◌, length, take, drop, slice_get, get_or, Option, None, Some, refl, sym, ap, subst, ◌∙◌, arith, eqb, add-one, length-append, length-take, drop_of_length-le}
+use Rattle.std.proofs.Common.{◌≡◌, ℕ, ◌+◌, ◌*◌, ◌<◌, ◌≤◌, inl, inr, Bool, false, List, [], ◌∷◌, ◌++◌, length, take, drop, slice_get, get_or, Option, None, Some, refl, sym, ap, subst, ◌∙◌, arith, eqb, add-one, length-append, length-take, drop_of_length-le}
 use Rattle.std.specs.List.{All, AllByRecursion, Contains, IsDistinct}
 use Rattle.std.proofs.Math.Seq.{take-suc}
 use Rattle.std.proofs.lemmas.List.{take-append-le, take_all}
@@ -13,11 +13,12 @@ use Rattle.command.specs.Kinds.{parents_of}
 use Rattle.command.proofs.ListFacts.{head_cases, none_element}
 use Rattle.command.proofs.PlaceFacts.{take_one_more}
 use Rattle.braid.specs.declared.closure.Links.{Links}
-use Rattle.braid.specs.working.Links.{AreLinked, AreNumbers, IsClosureWith, listed, listed_links, parent_places, parents_at, places_of, sum_of, times}
+use Rattle.braid.specs.working.Links.{AreLinked, AreNumbers, IsClosureWith, IsLeftId, Skips, left_of, listed, listed_links, parent_places, parents_left, places_of, sum_of, times}
 use Rattle.braid.specs.working.Placing.{AddsWhere}
 use Rattle.braid.proofs.Additions.{adds_both, adds_none}
 use Rattle.braid.proofs.Counts.{known_place, not_in, same_place, times_append, times_here, times_later}
 use Rattle.braid.proofs.Gathering.{Gathered, all_of, bounded, further, gathered, past}
+use Rattle.braid.proofs.Places.{left_append}
 use Rattle.braid.proofs.Numbers.{linked_kept, linked_more, numbers_join, numbers_kept}
 
 -- distinct places stand there once
@@ -43,8 +44,8 @@ distinct_once (x ∷ xs) d p =
 pub past_nth : (ids : List (List ℕ)) (nth : ℕ) → length ids ≤ nth → take 1 (drop nth ids) ≡ []
 past_nth ids nth le = ap (take 1) (drop_of_length-le ids le)
 
-pub none_past : (cs : List Command) (ids : List (List ℕ)) (nth : ℕ) (places : List ℕ) → length ids ≤ nth → AddsWhere (λ id. Unit {0}) cs (take 1 (drop nth ids)) places places
-none_past cs ids nth places le = subst (λ l. AddsWhere (λ id. Unit {0}) cs l places places) (sym (past_nth ids nth le)) (adds_none (λ id. Unit {0}) cs places)
+pub none_past : (P : List ℕ → Type 0) (cs : List Command) (ids : List (List ℕ)) (nth : ℕ) (places : List ℕ) → length ids ≤ nth → AddsWhere P cs (take 1 (drop nth ids)) places places
+none_past P cs ids nth places le = subst (λ l. AddsWhere P cs l places places) (sym (past_nth ids nth le)) (adds_none P cs places)
 
 -- two ids at most
 pub two_ids : (ids : List (List ℕ)) → length ids ≤ 2 → ids ≡ take 1 (drop 0 ids) ++ take 1 (drop 1 ids)
@@ -53,26 +54,29 @@ two_ids (id ∷ []) few = refl
 two_ids (id ∷ other ∷ []) few = refl
 two_ids (id ∷ other ∷ third ∷ more) few = absurd (omega (arith, few))
 
-pub both_adds : (cs : List Command) (ids : List (List ℕ)) (old mid new : List ℕ) → length ids ≤ 2 → AddsWhere (λ id. Unit {0}) cs (take 1 (drop 0 ids)) old mid → AddsWhere (λ id. Unit {0}) cs (take 1 (drop 1 ids)) mid new →
-    AddsWhere (λ id. Unit {0}) cs ids old new
-both_adds cs ids old mid new few first second =
-    subst (λ l. AddsWhere (λ id. Unit {0}) cs l old new) (sym (two_ids ids few)) (adds_both (λ id. Unit {0}) cs (take 1 (drop 0 ids)) (take 1 (drop 1 ids)) old mid new first second)
+pub both_adds : (P : List ℕ → Type 0) (cs : List Command) (ids : List (List ℕ)) (old mid new : List ℕ) → length ids ≤ 2 → AddsWhere P cs (take 1 (drop 0 ids)) old mid → AddsWhere P cs (take 1 (drop 1 ids)) mid new →
+    AddsWhere P cs ids old new
+both_adds P cs ids old mid new few first second =
+    subst (λ l. AddsWhere P cs l old new) (sym (two_ids ids few)) (adds_both P cs (take 1 (drop 0 ids)) (take 1 (drop 1 ids)) old mid new first second)
 
-pub both_numbers : (cs : List Command) (ids : List (List ℕ)) (mid new : List ℕ) (left right : Option ℕ) → length ids ≤ 2 → AddsWhere (λ id. Unit {0}) cs (take 1 (drop 1 ids)) mid new →
-    AreNumbers mid (listed left) (places_of cs (take 1 (drop 0 ids))) → AreNumbers new (listed right) (places_of cs (take 1 (drop 1 ids))) → AreNumbers new (listed left ++ listed right) (places_of cs ids)
-both_numbers cs ids mid new left right few adds first second =
-    subst (λ l. AreNumbers new (listed left ++ listed right) l) (sym (filter_map-append (place_of cs) (take 1 (drop 0 ids)) (take 1 (drop 1 ids))) ∙ ap (places_of cs) (sym (two_ids ids few)))
-    (numbers_join new (listed left) (places_of cs (take 1 (drop 0 ids))) (listed right) (places_of cs (take 1 (drop 1 ids)))
-    (subst (λ l. AreNumbers l (listed left) (places_of cs (take 1 (drop 0 ids)))) (sym adds.grown) (numbers_kept mid adds.more (listed left) (places_of cs (take 1 (drop 0 ids))) first)) second)
+pub both_numbers : (P : List ℕ → Type 0) (cs : List Command) (skip : ℕ → Bool) (ids : List (List ℕ)) (mid new : List ℕ) (left right : Option ℕ) → length ids ≤ 2 → AddsWhere P cs (take 1 (drop 1 ids)) mid new →
+    AreNumbers mid (listed left) (left_of skip (places_of cs (take 1 (drop 0 ids)))) → AreNumbers new (listed right) (left_of skip (places_of cs (take 1 (drop 1 ids)))) → AreNumbers new (listed left ++ listed right) (left_of skip (places_of cs ids))
+both_numbers P cs skip ids mid new left right few adds first second =
+    let one = places_of cs (take 1 (drop 0 ids)) in
+    let two = places_of cs (take 1 (drop 1 ids)) in
+    let whole : places_of cs ids ≡ one ++ two = ap (places_of cs) (two_ids ids few) ∙ filter_map-append (place_of cs) (take 1 (drop 0 ids)) (take 1 (drop 1 ids)) in
+    subst (λ l. AreNumbers new (listed left ++ listed right) l) (sym (ap (left_of skip) whole ∙ left_append skip one two))
+    (numbers_join new (listed left) (left_of skip one) (listed right) (left_of skip two)
+    (subst (λ l. AreNumbers l (listed left) (left_of skip one)) (sym adds.grown) (numbers_kept mid adds.more (listed left) (left_of skip one) first)) second)
 
 -- the first commands of the closure have their parents in it, and their links
-pub record Linked (cs : List Command) (tips : List ℕ) (links : List Links) (places : List ℕ) : Type 0 where
-  pub gathered : Gathered cs tips (length links) places
-  pub linked : AreLinked cs places links (take (length links) places)
+pub record Linked (cs : List Command) (skip : ℕ → Bool) (bases tips : List ℕ) (links : List Links) (places : List ℕ) : Type 0 where
+  pub gathered : Gathered cs skip bases tips (length links) places
+  pub linked : AreLinked cs skip places links (take (length links) places)
 
-pub linked_further : (cs : List Command) → IsClosed cs → (tips : List ℕ) (links then_links : List Links) (old new : List ℕ) (place : ℕ) (z : Command) (them : Links) → Linked cs tips links old → slice_get old (length links) ≡ Some place → IsAt cs place z →
-    AddsWhere (λ id. Unit {0}) cs (parents_of z) old new → AreNumbers new (listed_links them) (places_of cs (parents_of z)) → then_links ≡ links ++ them ∷ [] → Linked cs tips then_links new
-linked_further cs closed tips links then_links old new place z them now here at adds numbers pushed = subst (λ l. Linked cs tips l new) (sym pushed) grown
+pub linked_further : (cs : List Command) → IsClosed cs → (skip : ℕ → Bool) (bases tips : List ℕ) → Skips cs bases skip → (links then_links : List Links) (old new : List ℕ) (place : ℕ) (z : Command) (them : Links) → Linked cs skip bases tips links old → slice_get old (length links) ≡ Some place → IsAt cs place z →
+    AddsWhere (IsLeftId cs skip) cs (parents_of z) old new → AreNumbers new (listed_links them) (left_of skip (places_of cs (parents_of z))) → then_links ≡ links ++ them ∷ [] → Linked cs skip bases tips then_links new
+linked_further cs closed skip bases tips skips links then_links old new place z them now here at adds numbers pushed = subst (λ l. Linked cs skip bases tips l new) (sym pushed) grown
   where
     size : length (links ++ them ∷ []) ≡ length links + 1
     size = length-append links (them ∷ [])
@@ -83,25 +87,25 @@ linked_further cs closed tips links then_links old new place z them now here at 
     front : take (length links + 1) new ≡ take (length links) old ++ place ∷ []
     front = ap (take (length links + 1)) adds.grown ∙ take-append-le (length links + 1) old adds.more (omega (arith, room)) ∙ take_one_more old (length links) place here
 
-    its : AreNumbers new (listed_links them) (parents_at cs place)
-    its = subst (λ o. AreNumbers new (listed_links them) (parent_places cs o)) (sym at) numbers
+    its : AreNumbers new (listed_links them) (parents_left cs skip place)
+    its = subst (λ o. AreNumbers new (listed_links them) (left_of skip (parent_places cs o))) (sym at) numbers
 
-    kept : AreLinked cs new links (take (length links) old)
-    kept = subst (λ l. AreLinked cs l links (take (length links) old)) (sym adds.grown) (linked_kept cs old adds.more links (take (length links) old) now.linked)
+    kept : AreLinked cs skip new links (take (length links) old)
+    kept = subst (λ l. AreLinked cs skip l links (take (length links) old)) (sym adds.grown) (linked_kept cs skip old adds.more links (take (length links) old) now.linked)
 
-    grown : Linked cs tips (links ++ them ∷ []) new
+    grown : Linked cs skip bases tips (links ++ them ∷ []) new
     grown = record {
-      gathered = subst (λ n. Gathered cs tips n new) (sym size) (further cs closed tips (length links) old now.gathered place z new here at adds);
-      linked = subst (λ l. AreLinked cs new (links ++ them ∷ []) l) (sym (ap (λ n. take n new) size ∙ front)) (linked_more cs new links (take (length links) old) them place kept its);
+      gathered = subst (λ n. Gathered cs skip bases tips n new) (sym size) (further cs closed skip bases tips skips (length links) old now.gathered place z new here at adds);
+      linked = subst (λ l. AreLinked cs skip new (links ++ them ∷ []) l) (sym (ap (λ n. take n new) size ∙ front)) (linked_more cs skip new links (take (length links) old) them place kept its);
     }
 
 -- at the end the closure is whole
-pub linked_whole : (cs : List Command) → IsClosed cs → (tips : List ℕ) (links : List Links) (places : List ℕ) → Linked cs tips links places → IsDistinct eqb places → slice_get places (length links) ≡ None → IsClosureWith cs tips places links
-linked_whole cs closed tips links places now distinct none = record {
+pub linked_whole : (cs : List Command) → IsClosed cs → (skip : ℕ → Bool) (bases tips : List ℕ) → Skips cs bases skip → (links : List Links) (places : List ℕ) → Linked cs skip bases tips links places → IsDistinct eqb places → slice_get places (length links) ≡ None → IsClosureWith cs skip bases tips places links
+linked_whole cs closed skip bases tips skips links places now distinct none = record {
   once = distinct_once places distinct;
   within = all_of (λ p. p < length cs) places now.gathered.within;
-  under = gathered cs closed tips (length links) places now.gathered none;
-  linked = subst (λ l. AreLinked cs places links l) (take_all (length links) places (past places (length links) none)) now.linked;
+  under = gathered cs closed skip bases tips skips (length links) places now.gathered none;
+  linked = subst (λ l. AreLinked cs skip places links l) (take_all (length links) places (past places (length links) none)) now.linked;
   few = bounded cs places distinct now.gathered.within;
 }
 

@@ -1,5 +1,5 @@
 -- Places by their numbers.
-use Rattle.std.proofs.Common.{◌≡◌, ℕ, zero, suc, ◌<◌, ◌≤◌, ◌==◌, List, [], ◌∷◌, ◌++◌, length, slice_get, get_or, Some, refl, sym, ap, subst, ◌∙◌, arith}
+use Rattle.std.proofs.Common.{◌≡◌, ℕ, zero, suc, ◌<◌, ◌≤◌, ◌==◌, Bool, List, [], ◌∷◌, ◌++◌, length, slice_get, get_or, Some, refl, sym, ap, subst, ◌∙◌, arith}
 use Rattle.std.specs.Bool.{one_answer}
 use Rattle.std.specs.List.{All}
 use Rattle.std.proofs.lemmas.Bool.Decides.{Decides-eqb}
@@ -7,7 +7,7 @@ use Rattle.std.proofs.lemmas.List.Elements.{All-cons, All-nil}
 use Rattle.std.proofs.lemmas.Option.{slice_get_within}
 use Rattle.command.specs.declared.command.Command.{Command}
 use Rattle.braid.specs.declared.closure.Links.{Links}
-use Rattle.braid.specs.working.Links.{AreLinked, AreNumbers, listed_links, parents_at, sum_of, times}
+use Rattle.braid.specs.working.Links.{AreLinked, AreNumbers, listed_links, parents_left, sum_of, times}
 use Rattle.braid.proofs.Counts.{one_number}
 
 -- what stands there stays when more is put behind
@@ -53,39 +53,39 @@ module _ (places : List ℕ) (once : (p : ℕ) → times p places ≤ 1) (k p : 
   numbers_times (n ∷ ns) [] h = absurd h
   numbers_times (n ∷ ns) (q ∷ ps) h = rw (same_test n q h.0, numbers_times ns ps h.1) refl
 
-  pub linked_sum : (cs : List Command) (links : List Links) (ps : List ℕ) → AreLinked cs places links ps → sum_of (λ them. times k (listed_links them)) links ≡ sum_of (λ q. times p (parents_at cs q)) ps
-  linked_sum cs [] [] h = refl
-  linked_sum cs [] (q ∷ ps) h = absurd h
-  linked_sum cs (them ∷ links) [] h = absurd h
-  linked_sum cs (them ∷ links) (q ∷ ps) h = rw (numbers_times (listed_links them) (parents_at cs q) h.0, linked_sum cs links ps h.1) refl
+  pub linked_sum : (cs : List Command) (skip : ℕ → Bool) (links : List Links) (ps : List ℕ) → AreLinked cs skip places links ps → sum_of (λ them. times k (listed_links them)) links ≡ sum_of (λ q. times p (parents_left cs skip q)) ps
+  linked_sum cs skip [] [] h = refl
+  linked_sum cs skip [] (q ∷ ps) h = absurd h
+  linked_sum cs skip (them ∷ links) [] h = absurd h
+  linked_sum cs skip (them ∷ links) (q ∷ ps) h = rw (numbers_times (listed_links them) (parents_left cs skip q) h.0, linked_sum cs skip links ps h.1) refl
 
-pub linked_kept : (cs : List Command) (places more : List ℕ) (links : List Links) (ps : List ℕ) → AreLinked cs places links ps → AreLinked cs (places ++ more) links ps
-linked_kept cs places more [] [] h = tt
-linked_kept cs places more [] (q ∷ ps) h = absurd h
-linked_kept cs places more (them ∷ links) [] h = absurd h
-linked_kept cs places more (them ∷ links) (q ∷ ps) h = (numbers_kept places more (listed_links them) (parents_at cs q) h.0, linked_kept cs places more links ps h.1)
+pub linked_kept : (cs : List Command) (skip : ℕ → Bool) (places more : List ℕ) (links : List Links) (ps : List ℕ) → AreLinked cs skip places links ps → AreLinked cs skip (places ++ more) links ps
+linked_kept cs skip places more [] [] h = tt
+linked_kept cs skip places more [] (q ∷ ps) h = absurd h
+linked_kept cs skip places more (them ∷ links) [] h = absurd h
+linked_kept cs skip places more (them ∷ links) (q ∷ ps) h = (numbers_kept places more (listed_links them) (parents_left cs skip q) h.0, linked_kept cs skip places more links ps h.1)
 
-pub linked_more : (cs : List Command) (places : List ℕ) (links : List Links) (ps : List ℕ) (them : Links) (q : ℕ) → AreLinked cs places links ps → AreNumbers places (listed_links them) (parents_at cs q) → AreLinked cs places (links ++ them ∷ []) (ps ++ q ∷ [])
-linked_more cs places [] [] them q h one = (one, tt)
-linked_more cs places [] (p ∷ ps) them q h one = absurd h
-linked_more cs places (l ∷ links) [] them q h one = absurd h
-linked_more cs places (l ∷ links) (p ∷ ps) them q h one = (h.0, linked_more cs places links ps them q h.1 one)
+pub linked_more : (cs : List Command) (skip : ℕ → Bool) (places : List ℕ) (links : List Links) (ps : List ℕ) (them : Links) (q : ℕ) → AreLinked cs skip places links ps → AreNumbers places (listed_links them) (parents_left cs skip q) → AreLinked cs skip places (links ++ them ∷ []) (ps ++ q ∷ [])
+linked_more cs skip places [] [] them q h one = (one, tt)
+linked_more cs skip places [] (p ∷ ps) them q h one = absurd h
+linked_more cs skip places (l ∷ links) [] them q h one = absurd h
+linked_more cs skip places (l ∷ links) (p ∷ ps) them q h one = (h.0, linked_more cs skip places links ps them q h.1 one)
 
-pub linked_length : (cs : List Command) (places : List ℕ) (links : List Links) (ps : List ℕ) → AreLinked cs places links ps → length links ≡ length ps
-linked_length cs places [] [] h = refl
-linked_length cs places [] (p ∷ ps) h = absurd h
-linked_length cs places (l ∷ links) [] h = absurd h
-linked_length cs places (l ∷ links) (p ∷ ps) h = ap suc (linked_length cs places links ps h.1)
+pub linked_length : (cs : List Command) (skip : ℕ → Bool) (places : List ℕ) (links : List Links) (ps : List ℕ) → AreLinked cs skip places links ps → length links ≡ length ps
+linked_length cs skip places [] [] h = refl
+linked_length cs skip places [] (p ∷ ps) h = absurd h
+linked_length cs skip places (l ∷ links) [] h = absurd h
+linked_length cs skip places (l ∷ links) (p ∷ ps) h = ap suc (linked_length cs skip places links ps h.1)
 
-pub linked_at : (cs : List Command) (places : List ℕ) (links : List Links) (ps : List ℕ) → AreLinked cs places links ps → (k p : ℕ) (d : Links) → slice_get ps k ≡ Some p → AreNumbers places (listed_links (get_or links k d)) (parents_at cs p)
-linked_at cs places [] [] h k p d at = absurd (omega (arith, slice_get_within [] k p at))
-linked_at cs places [] (q ∷ ps) h k p d at = absurd h
-linked_at cs places (l ∷ links) [] h k p d at = absurd h
-linked_at cs places (l ∷ links) (q ∷ ps) h zero p d at = let same : q ≡ p = cc in subst (λ z. AreNumbers places (listed_links l) (parents_at cs z)) same h.0
-linked_at cs places (l ∷ links) (q ∷ ps) h (suc k) p d at = linked_at cs places links ps h.1 k p d at
+pub linked_at : (cs : List Command) (skip : ℕ → Bool) (places : List ℕ) (links : List Links) (ps : List ℕ) → AreLinked cs skip places links ps → (k p : ℕ) (d : Links) → slice_get ps k ≡ Some p → AreNumbers places (listed_links (get_or links k d)) (parents_left cs skip p)
+linked_at cs skip places [] [] h k p d at = absurd (omega (arith, slice_get_within [] k p at))
+linked_at cs skip places [] (q ∷ ps) h k p d at = absurd h
+linked_at cs skip places (l ∷ links) [] h k p d at = absurd h
+linked_at cs skip places (l ∷ links) (q ∷ ps) h zero p d at = let same : q ≡ p = cc in subst (λ z. AreNumbers places (listed_links l) (parents_left cs skip z)) same h.0
+linked_at cs skip places (l ∷ links) (q ∷ ps) h (suc k) p d at = linked_at cs skip places links ps h.1 k p d at
 
-pub linked_within : (cs : List Command) (places : List ℕ) (links : List Links) (ps : List ℕ) → AreLinked cs places links ps → All (λ them. All (λ k. k < length places) (listed_links them)) links
-linked_within cs places [] ps h = All-nil (λ them. All (λ k. k < length places) (listed_links them))
-linked_within cs places (l ∷ links) [] h = absurd h
-linked_within cs places (l ∷ links) (p ∷ ps) h =
-    All-cons (λ them. All (λ k. k < length places) (listed_links them)) l links (numbers_within places (listed_links l) (parents_at cs p) h.0) (linked_within cs places links ps h.1)
+pub linked_within : (cs : List Command) (skip : ℕ → Bool) (places : List ℕ) (links : List Links) (ps : List ℕ) → AreLinked cs skip places links ps → All (λ them. All (λ k. k < length places) (listed_links them)) links
+linked_within cs skip places [] ps h = All-nil (λ them. All (λ k. k < length places) (listed_links them))
+linked_within cs skip places (l ∷ links) [] h = absurd h
+linked_within cs skip places (l ∷ links) (p ∷ ps) h =
+    All-cons (λ them. All (λ k. k < length places) (listed_links them)) l links (numbers_within places (listed_links l) (parents_left cs skip p) h.0) (linked_within cs skip places links ps h.1)

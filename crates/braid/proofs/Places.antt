@@ -8,6 +8,7 @@ use Rattle.command.specs.declared.command.Command.{Command}
 use Rattle.command.specs.Ancestors.{IsAt}
 use Rattle.command.proofs.ListFacts.{at_head, behind_head, head_cases, none_element}
 use Rattle.braid.specs.Braids.{picked}
+use Rattle.braid.specs.working.Links.{left_of}
 use Rattle.braid.specs.working.Placing.{IsAmong, struck}
 
 kept_or_not : (b : Bool) (p q : ℕ) (more : List ℕ) → Contains (cond (not b) (p ∷ more) more) q → ((b ≡ false) × (p ≡ q)) ⊎ Contains more q
@@ -92,3 +93,48 @@ reverse_more places place = reverse-append places (place ∷ [])
 
 pub reversed_all : (P : ℕ → Type 0) (places : List ℕ) → All P places → All P (reverse places)
 reversed_all P places all = All-permutation P places (reverse places) (IsPermutation-reverse places) all
+
+-- ---- places that a test leaves
+
+pub left_out : (skip : ℕ → Bool) (p : ℕ) (ps : List ℕ) → skip p ≡ true → left_of skip (p ∷ ps) ≡ left_of skip ps
+left_out skip p ps is = rw is refl
+
+pub left_in : (skip : ℕ → Bool) (p : ℕ) (ps : List ℕ) → skip p ≡ false → left_of skip (p ∷ ps) ≡ p ∷ left_of skip ps
+left_in skip p ps is = rw is refl
+
+pub tested : (b : Bool) → (b ≡ true) ⊎ (b ≡ false)
+tested true = inl refl
+tested false = inr refl
+
+pub left_was : (skip : ℕ → Bool) (ps : List ℕ) (q : ℕ) → Contains (left_of skip ps) q → Contains ps q × (skip q ≡ false)
+left_was skip [] q h = absurd (none_element q h)
+left_was skip (p ∷ ps) q h =
+    elim (tested (skip p)) [
+      | inl out ↦ let r = left_was skip ps q (subst (λ l. Contains l q) (left_out skip p ps out) h) in (behind_head p ps q r.0, r.1)
+      | inr stays ↦
+          elim (head_cases p (left_of skip ps) q (subst (λ l. Contains l q) (left_in skip p ps stays) h)) [
+            | inl same ↦ subst (λ k. Contains (p ∷ ps) k × (skip k ≡ false)) same (at_head p ps, stays)
+            | inr later ↦ let r = left_was skip ps q later in (behind_head p ps q r.0, r.1)
+          ]
+    ]
+
+pub left_has : (skip : ℕ → Bool) (ps : List ℕ) (q : ℕ) → Contains ps q → skip q ≡ false → Contains (left_of skip ps) q
+left_has skip [] q h is = absurd (none_element q h)
+left_has skip (p ∷ ps) q h is =
+    elim (head_cases p ps q h) [
+      | inl same ↦
+          subst (λ l. Contains l q) (sym (left_in skip p ps (ap skip same ∙ is))) (subst (λ k. Contains (p ∷ left_of skip ps) k) same (at_head p (left_of skip ps)))
+      | inr later ↦
+          elim (tested (skip p)) [
+            | inl out ↦ subst (λ l. Contains l q) (sym (left_out skip p ps out)) (left_has skip ps q later is)
+            | inr stays ↦ subst (λ l. Contains l q) (sym (left_in skip p ps stays)) (behind_head p (left_of skip ps) q (left_has skip ps q later is))
+          ]
+    ]
+
+pub left_append : (skip : ℕ → Bool) (ps qs : List ℕ) → left_of skip (ps ++ qs) ≡ left_of skip ps ++ left_of skip qs
+left_append skip [] qs = refl
+left_append skip (p ∷ ps) qs =
+    elim (tested (skip p)) [
+      | inl out ↦ left_out skip p (ps ++ qs) out ∙ left_append skip ps qs ∙ ap (λ l. l ++ left_of skip qs) (sym (left_out skip p ps out))
+      | inr stays ↦ left_in skip p (ps ++ qs) stays ∙ ap (λ l. p ∷ l) (left_append skip ps qs) ∙ ap (λ l. l ++ left_of skip qs) (sym (left_in skip p ps stays))
+    ]

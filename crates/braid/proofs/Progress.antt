@@ -13,7 +13,8 @@ use Rattle.command.proofs.ClosedFacts.{same_by_id}
 use Rattle.command.proofs.KnownAncestors.{known_id}
 use Rattle.command.proofs.ListFacts.{at_head, behind_head, head_cases, none_element}
 use Rattle.command.proofs.PlaceFacts.{inside_at, one_place}
-use Rattle.braid.specs.Braids.{IsBraidUnder, IsPlaced, IsTop, picked}
+use Rattle.braid.specs.Bases.{IsRest}
+use Rattle.braid.specs.Braids.{IsBraidOf, IsPlaced, IsTop, picked}
 use Rattle.braid.specs.Lower.{IsLower}
 use Rattle.braid.specs.working.Placing.{HasChild, IsAmong, IsFirst, IsFree, Placing, struck}
 use Rattle.braid.proofs.Additions.{is_parent_of, parent_is}
@@ -24,16 +25,17 @@ use Rattle.braid.proofs.Places.{among_picked, picked_among, picked_more, reverse
 use Rattle.braid.proofs.Placing.{each_same, taking, without, without_differs, without_has, without_was}
 
 -- a command that is the parent of none that remains is an ancestor of none
-free_is_top : (cs : List Command) (remaining : List ℕ) → ((m y : Command) → IsParent cs m y → IsAmong cs remaining y → IsAmong cs remaining m) → (place : ℕ) (z : Command) → IsAt cs place z → IsFree cs remaining place →
+free_is_top : (cs : List Command) (bases remaining : List ℕ) → ((m y : Command) → IsParent cs m y → IsAmong cs remaining y → ¬ IsUnder cs bases m → IsAmong cs remaining m) → (place : ℕ) (z : Command) → IsAt cs place z → IsFree cs remaining place → ¬ IsUnder cs bases z →
     (w : Command) → Ancestor cs z w → IsAmong cs remaining w → ⊥
-free_is_top cs remaining down place z at free w (Parent e) among = free z at (w, among, parent_is (command_id z) w e.link)
-free_is_top cs remaining down place z at free w (Further {m = m} a e) among = free_is_top cs remaining down place z at free m a (down m w e among)
+free_is_top cs bases remaining down place z at free left w (Parent e) among = free z at (w, among, parent_is (command_id z) w e.link)
+free_is_top cs bases remaining down place z at free left w (Further {m = m} a e) among =
+    free_is_top cs bases remaining down place z at free left m a (down m w e among (λ u. left (under_down cs bases z m a u)))
 
 -- a child that remains
 child_is : (cs : List Command) (remaining : List ℕ) (z : Command) → Contains cs z → (h : HasChild cs remaining (command_id z)) → IsParent cs z h.0
 child_is cs remaining z inside h = record { older = inside; newer = inside_at cs h.1.0 h.0 h.1.2; link = is_parent_of (command_id z) h.0 h.2 }
 
-module _ (cs : List Command) (closed : IsClosed cs) (tips remaining tops placed : List ℕ) (now : Placing cs tips remaining tops placed) where
+module _ (cs : List Command) (closed : IsClosed cs) (bases tips remaining tops placed : List ℕ) (now : Placing cs bases tips remaining tops placed) where
   -- where there is no top, nothing is remaining
   pub none_left : tops ≡ [] → (z : Command) → IsAmong cs remaining z → ⊥
   none_left empty z among =
@@ -47,7 +49,7 @@ module _ (cs : List Command) (closed : IsClosed cs) (tips remaining tops placed 
       z (inside_at cs among.0 z among.2) among
 
   -- and then the braid is whole
-  pub whole : tops ≡ [] → IsBraidUnder cs tips (picked cs (reverse placed))
+  pub whole : tops ≡ [] → IsBraidOf cs (IsRest cs bases tips) (picked cs (reverse placed))
   whole empty = record {
     holds = λ x. (
       (λ h. (now.holds x).0 (inr h)),
@@ -78,11 +80,11 @@ module _ (cs : List Command) (closed : IsClosed cs) (tips remaining tops placed 
 
     -- y is an ancestor of none that remains
     top : (w : Command) → Ancestor cs y w → IsAmong cs remaining w → ⊥
-    top = free_is_top cs remaining now.down place y here in_left.1
+    top = free_is_top cs bases remaining now.down place y here in_left.1 (now.left y (place, in_left.0, here))
 
-    down_next : (m w : Command) → IsParent cs m w → IsAmong cs (struck place remaining) w → IsAmong cs (struck place remaining) m
-    down_next m w e among =
-        still_left m (now.down m w e (now_left w among)) (λ same. top w (Parent (subst (λ z. IsParent cs z w) (sym same) e)) (now_left w among))
+    down_next : (m w : Command) → IsParent cs m w → IsAmong cs (struck place remaining) w → ¬ IsUnder cs bases m → IsAmong cs (struck place remaining) m
+    down_next m w e among left =
+        still_left m (now.down m w e (now_left w among) left) (λ same. top w (Parent (subst (λ z. IsParent cs z w) (sym same) e)) (now_left w among))
 
     -- where y is no merge, the tops of those that are no merges are free
     plain_top : is_merge y ≡ false → (z : Command) → IsAmong cs remaining z → IsTop cs now.plain z → (w : Command) → Contains cs w → IsAmong cs remaining w → Ancestor cs z w → ⊥
@@ -111,11 +113,12 @@ module _ (cs : List Command) (closed : IsClosed cs) (tips remaining tops placed 
         first.lowest z y (among.0.0, (now.free among.0.0).1 (among.0.1, free), among.0.2) here (lower_before z y among.1 other lower)
 
     -- a merge is taken, and not placed
-    pub take_merge : is_merge y ≡ true → (more : List ℕ) → ((p : ℕ) → Contains more p ↔ (Contains (struck place remaining) p × IsFree cs (struck place remaining) p)) → Placing cs tips (struck place remaining) more placed
+    pub take_merge : is_merge y ≡ true → (more : List ℕ) → ((p : ℕ) → Contains more p ↔ (Contains (struck place remaining) p × IsFree cs (struck place remaining) p)) → Placing cs bases tips (struck place remaining) more placed
     take_merge merge more free = record {
       within = λ p h. now.within p (struck_was place remaining p h).0;
       free = free;
       down = down_next;
+      left = λ z h. now.left z (now_left z h);
       plain = now.plain;
       plain_is = λ z. (
         (λ h. let was = (now.plain_is z).0 h in (still_left z was.0 (λ same. let both = subst (λ w. is_merge w ≡ true) same merge in let other = was.1 in absurd cc), was.1)),
@@ -128,11 +131,12 @@ module _ (cs : List Command) (closed : IsClosed cs) (tips remaining tops placed 
 
     -- another command is taken, and placed in front of the others
     pub take_plain : is_merge y ≡ false → (more after : List ℕ) → ((p : ℕ) → Contains more p ↔ (Contains (struck place remaining) p × IsFree cs (struck place remaining) p)) → after ≡ placed ++ place ∷ [] →
-        All (λ p. p < length cs) after → Placing cs tips (struck place remaining) more after
+        All (λ p. p < length cs) after → Placing cs bases tips (struck place remaining) more after
     take_plain other more after free grown within = record {
       within = λ p h. now.within p (struck_was place remaining p h).0;
       free = free;
       down = down_next;
+      left = λ z h. now.left z (now_left z h);
       plain = without (command_id y) now.plain;
       plain_is = λ z. (
         (λ h.
@@ -149,7 +153,7 @@ module _ (cs : List Command) (closed : IsClosed cs) (tips remaining tops placed 
           | inl waits ↦ (now.holds x).0 (inl (without_was (command_id y) now.plain x waits))
           | inr there ↦
               elim (head_cases y (picked cs (reverse placed)) x (subst (λ l. Contains l x) order_is there)) [
-                | inl same ↦ subst (λ w. Contains cs w × IsUnder cs tips w × (is_merge w ≡ false)) same ((now.holds y).0 (inl in_plain))
+                | inl same ↦ subst (λ w. Contains cs w × IsRest cs bases tips w × (is_merge w ≡ false)) same ((now.holds y).0 (inl in_plain))
                 | inr later ↦ (now.holds x).0 (inr later)
               ]
         ]),
@@ -175,12 +179,13 @@ module _ (cs : List Command) (closed : IsClosed cs) (tips remaining tops placed 
         order_is = ap (λ l. picked cs (reverse l)) grown ∙ ap (picked cs) (reverse_more placed place) ∙ picked_more cs place (reverse placed) y here
 
 -- at the start nothing is placed
-pub began : (cs : List Command) (tips remaining tops : List ℕ) → ((p : ℕ) → Contains remaining p → p < length cs) → ((z : Command) → IsAmong cs remaining z ↔ IsUnder cs tips z) →
-    ((p : ℕ) → Contains tops p ↔ (Contains remaining p × IsFree cs remaining p)) → All (λ p. p < length cs) [] → Placing cs tips remaining tops []
-began cs tips remaining tops within under free none = record {
+pub began : (cs : List Command) (bases tips remaining tops : List ℕ) → ((p : ℕ) → Contains remaining p → p < length cs) → ((z : Command) → IsAmong cs remaining z ↔ IsRest cs bases tips z) →
+    ((p : ℕ) → Contains tops p ↔ (Contains remaining p × IsFree cs remaining p)) → All (λ p. p < length cs) [] → Placing cs bases tips remaining tops []
+began cs bases tips remaining tops within under free none = record {
   within = within;
   free = free;
-  down = λ m y e among. (under m).1 (under_down cs tips m y (Parent e) ((under y).0 among));
+  down = λ m y e among left. (under m).1 (under_down cs tips m y (Parent e) ((under y).0 among).0, left);
+  left = λ z h. ((under z).0 h).1;
   plain = plain (picked cs remaining);
   plain_is = λ z. (
     (λ h. let was = plain_was (picked cs remaining) z h in (picked_among cs remaining z was.0, was.1)),

@@ -2,4 +2,5 @@
 pub mod Lower
 pub mod Braids
 pub mod Agreeing
+pub mod Bases
 pub mod working

@@ -1,9 +1,10 @@
-ghost use Rattle.std.specs.Prelude.{◌≡◌, ◌<◌, ℕ, true, List, length};
+ghost use Rattle.std.specs.Prelude.{◌≡◌, ◌<◌, ℕ, true, false, List, length};
 ghost use Rattle.std.specs.List.{All, Contains};
-ghost use Rattle.command.specs.Ancestors.{AreInLine};
+ghost use Rattle.command.specs.Ancestors.{AreInLine, IsUnder};
 ghost use Rattle.command.specs.Closed.{IsClosed};
-ghost use Rattle.command.specs.Kinds.{is_finalize};
+ghost use Rattle.command.specs.Kinds.{is_finalize, is_merge};
 ghost use Rattle.command.specs.declared.command.Command.{Command};
+ghost use Rattle.braid.specs.Bases.{IsBase, IsStraight, IsWaist, PartsAt};
 ghost use Rattle.braid.specs.Agreeing.{Agree, ClosuresHaveOneBraid, HasOneBraid, HaveOneBraid, IsFinal, Stays, StaysUnder};
 
 /// Each closed list of commands has exactly one braid.
@@ -31,4 +32,13 @@ pub fn closures_stay()
 /// The braid of a finalize's closure begins the whole braid, where finalize commands are in line.
 pub fn finalize_is_final()
     ensures { (commands : List Command) (f : Command) → IsClosed commands → AreInLine commands → Contains commands f → is_finalize f ≡ true → IsFinal commands f }
+{}
+
+/// At a base the braid parts: the braid under the tips is that of the base's closure, and behind it the braid of what stands above. A finalize of the
+/// tips' closure is a base of it, where finalize commands are in line, and so is a waist.
+pub fn bases_are_final()
+    ensures parts { (commands : List Command) (tips : List ℕ) (f : Command) → IsClosed commands → IsBase commands tips f → PartsAt commands tips f }
+    ensures finalize { (commands : List Command) (tips : List ℕ) (f : Command) → AreInLine commands → is_finalize f ≡ true → IsUnder commands tips f → IsBase commands tips f }
+    ensures waist { (commands : List Command) (tips : List ℕ) (f : Command) → IsWaist commands f → is_merge f ≡ false → IsUnder commands tips f → IsBase commands tips f }
+    ensures straight { (commands : List Command) (tips : List ℕ) (f : Command) → IsClosed commands → Contains commands f → IsStraight commands tips f → is_merge f ≡ false → IsUnder commands tips f → IsBase commands tips f }
 {}

@@ -1,8 +1,11 @@
-ghost use Rattle.std.specs.Prelude.{◌≡◌, ◌<◌, ◌≤◌, ◌+◌, ℕ, List, [], ◌++◌, if◌then◌else◌, IfOk, OnOk, IfSome, Some, ◌∷◌, length, slice_get, get_or};
+ghost use Rattle.std.specs.Prelude.{◌≡◌, ◌<◌, ◌≤◌, ◌+◌, ℕ, Bool, false, List, [], ◌++◌, if◌then◌else◌, IfOk, OnOk, IfSome, Some, ◌∷◌, length, slice_get, get_or};
 ghost use Rattle.std.specs.BinaryHeap.{heap_items};
-ghost use Rattle.std.specs.List.{All, sum};
-ghost use Rattle.braid.specs.Braids.{IsBraidUnder, picked};
-ghost use Rattle.braid.specs.working.Links.{AreLinked, AreNumbers, IsClosureWith, listed, listed_links, parents_at, times};
+ghost use Rattle.std.specs.List.{All, Contains, sum};
+ghost use Rattle.command.specs.Ancestors.{IsAt};
+ghost use Rattle.command.specs.declared.command.Command.{Command as TheCommand};
+ghost use Rattle.braid.specs.Bases.{IsAbove, IsRest};
+ghost use Rattle.braid.specs.Braids.{IsBraidOf, IsBraidUnder, picked};
+ghost use Rattle.braid.specs.working.Links.{AreLinked, AreNumbers, IsClosureWith, listed, listed_links, parents_left, times};
 ghost use Rattle.braid.specs.working.Turns.{AreOrdered, IsTurn, Offers, Standing, waiting};
 
 use crate::children::children;
@@ -49,10 +52,10 @@ fn release<G: Graph>(
     ensures heap { AreOrdered (heap_items heap.new) }
     ensures children { length children.new.items ≡ length children.old.items }
     ensures fewer { OnOk result (length (heap_items heap.new) + sum children.new.items ≤ length (heap_items heap.old) + sum children.old.items) }
-    ensures standing { OnOk result ((parents due remaining : List ℕ) → AreNumbers places.now (listed number) parents →
+    ensures standing { OnOk result ((skip : ℕ → Bool) (parents due remaining : List ℕ) → AreNumbers places.now (listed number) parents →
         ((p : ℕ) → times p places.now ≤ 1) → ((p : ℕ) → times p remaining ≤ 1) →
-        Standing (G.commands graph.now) places.now children.old.items (heap_items heap.old) (parents ++ due) remaining →
-        Standing (G.commands graph.now) places.now children.new.items (heap_items heap.new) due remaining) }
+        Standing (G.commands graph.now) skip places.now children.old.items (heap_items heap.old) (parents ++ due) remaining →
+        Standing (G.commands graph.now) skip places.now children.new.items (heap_items heap.new) due remaining) }
 {
     let Some(number) = number else {
         return Ok(());
@@ -73,8 +76,8 @@ fn tops<G: Graph>(
     requires within { All (λ p. p < length (G.commands graph.now)) places.now }
     requires once { (p : ℕ) → times p places.now ≤ 1 }
     ensures heap { IfOk result (λ heap. AreOrdered (heap_items heap)) }
-    ensures standing { IfOk result (λ heap. ((k p : ℕ) → slice_get places.now k ≡ Some p → get_or children.now k 0 ≡ waiting (G.commands graph.now) [] places.now p) →
-        Standing (G.commands graph.now) places.now children.now (heap_items heap) [] places.now) }
+    ensures standing { IfOk result (λ heap. (skip : ℕ → Bool) → ((k p : ℕ) → slice_get places.now k ≡ Some p → get_or children.now k 0 ≡ waiting (G.commands graph.now) skip [] places.now p) →
+        ((p : ℕ) → Contains places.now p → skip p ≡ false) → Standing (G.commands graph.now) skip places.now children.now (heap_items heap) [] places.now) }
 {
     let mut heap = BinaryHeap::new(alloc);
     for number in 0..places.len() {
@@ -93,13 +96,19 @@ fn put(alloc: Global, turn: &Turn, placed: &mut Places) -> Result<(), NoMemory>
     Ok(())
 }
 
-/// The places of the commands in the tips' closure, but for the merges, in the order of their braid.
-pub fn braid<G: Graph>(alloc: Global, graph: &G, tips: &[usize]) -> Result<Places, NoMemory>
-    requires { All (λ p. p < length (G.commands graph.now)) tips.now }
-    ensures braid { IfOk result (λ places. IsBraidUnder (G.commands graph.now) tips.now (picked (G.commands graph.now) places)) }
+/// The places of the commands in the tips' closure that aren't in that of the command at the base, but for the merges, in the order of their braid.
+fn braid_rest<G: Graph>(
+    alloc: Global,
+    graph: &G,
+    base: Option<usize>,
+    tips: &[usize],
+) -> Result<Places, NoMemory>
+    requires base { All (λ p. p < length (G.commands graph.now)) (listed base) }
+    requires tips { All (λ p. p < length (G.commands graph.now)) tips.now }
+    ensures braid { IfOk result (λ places. IsBraidOf (G.commands graph.now) (IsRest (G.commands graph.now) (listed base) tips.now) (picked (G.commands graph.now) places)) }
     ensures within { IfOk result (All (λ p. p < length (G.commands graph.now))) }
 {
-    let found = closure(alloc, graph, tips)?;
+    let found = closure(alloc, graph, base, tips)?;
     let places = found.places.as_slice();
     let links = found.links.as_slice();
     let mut children = children(alloc, links)?;
@@ -113,4 +122,30 @@ pub fn braid<G: Graph>(alloc: Global, graph: &G, tips: &[usize]) -> Result<Place
     }
     placed.reverse();
     Ok(placed)
+}
+
+/// The places of the commands in the tips' closure, but for the merges, in the order of their braid.
+pub fn braid<G: Graph>(alloc: Global, graph: &G, tips: &[usize]) -> Result<Places, NoMemory>
+    requires { All (λ p. p < length (G.commands graph.now)) tips.now }
+    ensures braid { IfOk result (λ places. IsBraidUnder (G.commands graph.now) tips.now (picked (G.commands graph.now) places)) }
+    ensures within { IfOk result (All (λ p. p < length (G.commands graph.now))) }
+{
+    let places = braid_rest(alloc, graph, None, tips)?;
+    Ok(places)
+}
+
+/// The same of the commands that stand above the command at the base.
+pub fn braid_above<G: Graph>(
+    alloc: Global,
+    graph: &G,
+    base: usize,
+    tips: &[usize],
+) -> Result<Places, NoMemory>
+    requires base { base < length (G.commands graph.now) }
+    requires tips { All (λ p. p < length (G.commands graph.now)) tips.now }
+    ensures braid { IfOk result (λ places. (f : TheCommand) → IsAt (G.commands graph.now) base f → IsBraidOf (G.commands graph.now) (IsAbove (G.commands graph.now) tips.now f) (picked (G.commands graph.now) places)) }
+    ensures within { IfOk result (All (λ p. p < length (G.commands graph.now))) }
+{
+    let places = braid_rest(alloc, graph, Some(base), tips)?;
+    Ok(places)
 }

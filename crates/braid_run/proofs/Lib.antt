@@ -1,5 +1,7 @@
 -- Lemmas behind the contracts.
 pub mod RunFacts
+pub mod AboveFacts
+pub mod KeptFacts
 pub mod BatchFacts
 pub mod PlacedFacts
 pub mod SoundFacts

@@ -1,5 +1,5 @@
 -- Runs: what the first commands leave, and how far a run has come.
-use Rattle.std.proofs.Common.{◌≡◌, ℕ, suc, ◌+◌, ◌<◌, ◌≤◌, List, [], ◌∷◌, ◌++◌, length, map, take, drop, get_or, slice_get, Some, option_map, refl, sym, ap, subst, ◌∙◌, arith, append_assoc, append-nil, drop-cons, length-append}
+use Rattle.std.proofs.Common.{◌≡◌, ℕ, suc, ◌+◌, ◌*◌, ◌<◌, ◌≤◌, List, [], ◌∷◌, ◌++◌, length, map, take, drop, get_or, slice_get, Option, None, Some, option_map, refl, sym, ap, subst, ◌∙◌, arith, append_assoc, append-nil, drop-cons, length-append}
 use Rattle.std.specs.List.{All}
 use Rattle.std.proofs.Math.Seq.{take-append_seam}
 use Rattle.std.proofs.lemmas.List.{drop_all, length-take-le, map-append, take-append-drop}
@@ -7,8 +7,8 @@ use Rattle.std.proofs.lemmas.List.Elements.{All-push}
 use Rattle.std.proofs.lemmas.Option.{same_Some}
 use Rattle.braid.specs.Braids.{picked}
 use Rattle.braid.proofs.Places.{picked_more}
-use Rattle.braid_run.specs.RunOf.{IsCountedRun}
-use Rattle.braid_run.specs.Runs.{Run, block_ticks, command_ticks, entry_of, no_run, rows_behind, run_of, run_on, with_command}
+use Rattle.braid_run.specs.RunAbove.{IsRunFrom}
+use Rattle.braid_run.specs.Runs.{Run, block_ticks, call_ticks, command_ticks, entry_of, no_run, rows_behind, run_from, run_of, run_on, with_command}
 use Rattle.braid_run.specs.declared.entry.Entry.{Entry}
 use Rattle.command.specs.Ancestors.{IsAt}
 use Rattle.command.specs.Wire.{command_id}
@@ -16,7 +16,9 @@ use Rattle.command.specs.declared.command.Command.{Command}
 use Rattle.fact_store.specs.declared.row.Row.{Row}
 use Rattle.policy_ast.specs.declared.policy.PlacedItem.{PlacedItem}
 use Rattle.policy_meaning.specs.Applying.{Ended, Passes, Checks, Faults, Sticks as Sticking}
-use Rattle.policy_meaning.specs.Commands.{Judged, Pass, Recalled, Void, Sticks as Stuck, judged}
+use Rattle.policy_meaning.specs.Blocks.{policy_block}
+use Rattle.policy_meaning.specs.declared.call.Call.{Call}
+use Rattle.policy_meaning.specs.Commands.{call_of, Judged, Pass, Recalled, Void, Sticks as Stuck, judged}
 
 -- a run of which more blocks were run before
 abbrev pub raised : ℕ → Run → Run
@@ -136,31 +138,51 @@ module _ (policy : List PlacedItem) (cs : List Command) (places : List ℕ) (who
       ∙ before
 
 -- the ticks of a run whose counter began elsewhere
-pub ticks_from : (policy : List PlacedItem) (cs : List Command) (before : ℕ) →
-    (run_on policy (record { rows = []; entries = []; ticks = before }) cs).ticks ≡ before + (run_of policy cs).ticks
-ticks_from policy cs before =
+pub ticks_from : (policy : List PlacedItem) (start : List Row) (cs : List Command) (before : ℕ) →
+    (run_on policy (record { rows = start; entries = []; ticks = before }) cs).ticks ≡ before + (run_on policy (run_from start) cs).ticks
+ticks_from policy start cs before =
     let plus : before ≡ before + 0 = omega arith in
-    ap (λ n. (run_on policy (record { rows = []; entries = []; ticks = n }) cs).ticks) plus ∙ ap (λ run. run.ticks) (run_raised policy before no_run cs)
+    ap (λ n. (run_on policy (record { rows = start; entries = []; ticks = n }) cs).ticks) plus ∙ ap (λ run. run.ticks) (run_raised policy before (run_from start) cs)
 
 -- at no place are there more ticks than those of the whole run
-pub stays_within : (policy : List PlacedItem) (cs : List Command) (places : List ℕ) (i place : ℕ) (x : Command) (old : Run) (before ticks : ℕ) → i < length places → place ≡ get_or places i 0 →
+pub stays_within : (policy : List PlacedItem) (start : List Row) (cs : List Command) (places : List ℕ) (i place : ℕ) (x : Command) (old : Run) (before ticks : ℕ) → i < length places → place ≡ get_or places i 0 →
     IsAt cs place x → ticks ≤ old.ticks + command_ticks policy old.rows x →
-    run_on policy old (picked cs (drop i places)) ≡ run_on policy (record { rows = []; entries = []; ticks = before }) (picked cs places) → ticks ≤ before + (run_of policy (picked cs places)).ticks
-stays_within policy cs places i place x old before ticks within is at few so_far =
-    let most = ticks_within policy cs places (run_on policy (record { rows = []; entries = []; ticks = before }) (picked cs places)) i place x old ticks within is at few so_far in
-    omega (arith, most, ticks_from policy (picked cs places) before)
+    run_on policy old (picked cs (drop i places)) ≡ run_on policy (record { rows = start; entries = []; ticks = before }) (picked cs places) → ticks ≤ before + (run_on policy (run_from start) (picked cs places)).ticks
+stays_within policy start cs places i place x old before ticks within is at few so_far =
+    let most = ticks_within policy cs places (run_on policy (record { rows = start; entries = []; ticks = before }) (picked cs places)) i place x old ticks within is at few so_far in
+    omega (arith, most, ticks_from policy start (picked cs places) before)
 
 -- all commands were run, by a counter that began elsewhere
-pub ran_whole : (policy : List PlacedItem) (cs : List Command) (places : List ℕ) (i : ℕ) (rows : List Row) (entries : List Entry) (before now : ℕ) → length places ≤ i →
-    run_on policy (record { rows = rows; entries = entries; ticks = now }) (picked cs (drop i places)) ≡ run_on policy (record { rows = []; entries = []; ticks = before }) (picked cs places) →
-    IsCountedRun policy (picked cs places) rows entries before now
-ran_whole policy cs places i rows entries before now past is =
+pub ran_whole : (policy : List PlacedItem) (start : List Row) (cs : List Command) (places : List ℕ) (i : ℕ) (rows : List Row) (entries : List Entry) (before now : ℕ) → length places ≤ i →
+    run_on policy (record { rows = rows; entries = entries; ticks = now }) (picked cs (drop i places)) ≡ run_on policy (record { rows = start; entries = []; ticks = before }) (picked cs places) →
+    IsRunFrom policy start (picked cs places) rows entries before now
+ran_whole policy start cs places i rows entries before now past is =
     let last : Run = record { rows = rows; entries = entries; ticks = now } in
     let none : picked cs (drop i places) ≡ [] = ap (picked cs) (drop_all i places past) in
     let plus : before ≡ before + 0 = omega arith in
-    let same : last ≡ raised before (run_of policy (picked cs places)) =
-    ap (run_on policy last) (sym none) ∙ is ∙ ap (λ n. run_on policy (record { rows = []; entries = []; ticks = n }) (picked cs places)) plus ∙ run_raised policy before no_run (picked cs places) in
+    let same : last ≡ raised before (run_on policy (run_from start) (picked cs places)) =
+    ap (run_on policy last) (sym none) ∙ is ∙ ap (λ n. run_on policy (record { rows = start; entries = []; ticks = n }) (picked cs places)) plus ∙ run_raised policy before (run_from start) (picked cs places) in
     record { same_rows = ap (λ run. run.rows) same; same_entries = ap (λ run. run.entries) same; counted = ap (λ run. run.ticks) same }
+
+-- a command takes two ticks at most
+two_ticks : (ended : Ended) → block_ticks ended ≤ 2
+two_ticks (Passes rows effects) = omega arith
+two_ticks (Checks recall) = omega arith
+two_ticks (Faults kind) = omega arith
+two_ticks Sticking = omega arith
+
+command_few : (policy : List PlacedItem) (rows : List Row) (called : Option Call) → call_ticks policy rows called ≤ 2
+command_few policy rows None = omega arith
+command_few policy rows (Some call) = two_ticks (policy_block policy call rows)
+
+pub few_ticks : (policy : List PlacedItem) (run : Run) (cs : List Command) → (run_on policy run cs).ticks ≤ run.ticks + 2 * length cs
+few_ticks policy run [] = omega arith
+few_ticks policy run (c ∷ cs) =
+    let next = with_command policy run c in
+    let rest : (run_on policy next cs).ticks ≤ next.ticks + 2 * length cs = few_ticks policy next cs in
+    let one : next.ticks ≡ run.ticks + command_ticks policy run.rows c = refl in
+    let few : command_ticks policy run.rows c ≤ 2 = command_few policy run.rows (call_of policy c) in
+    omega (arith, rest, one, few)
 
 pub all_more : {X : Type 0} (P : X → Type 0) (old new : List X) (x : X) → new ≡ old ++ x ∷ [] → All P old → P x → All P new
 all_more P old new x is all one = subst (λ l. All P l) (sym is) (All-push P old x all one)

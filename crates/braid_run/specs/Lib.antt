@@ -2,6 +2,7 @@
 pub mod EntryLists
 pub mod Runs
 pub mod RunOf
+pub mod RunAbove
 pub mod Places
 pub mod States
 pub mod Batches

@@ -17,6 +17,10 @@ pub record Run : Type 0 where
   pub entries : List Entry
   pub ticks : ℕ
 
+-- Nothing was run yet, over these facts.
+abbrev pub run_from : List Row → Run
+run_from rows = record { rows = rows; entries = []; ticks = 0 }
+
 -- Before the first command there are no facts.
 abbrev pub no_run : Run
 no_run = record { rows = []; entries = []; ticks = 0 }

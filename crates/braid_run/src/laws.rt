@@ -1,20 +1,22 @@
 //! The laws of runs, over the definitions alone. These functions do nothing; their contracts are the laws.
 
-ghost use Rattle.std.specs.Prelude.{◌≡◌, ◌<◌, ◌⊎◌, ℕ, true, List, [], ◌∷◌, ◌++◌, drop, length, map, Option};
+ghost use Rattle.std.specs.Prelude.{◌≡◌, ◌<◌, ◌⊎◌, ℕ, true, false, List, [], ◌∷◌, ◌++◌, drop, length, map, Option};
 ghost use Rattle.std.specs.List.{All, Contains};
 ghost use Rattle.braid.specs.Agreeing.{Agree};
 ghost use Rattle.braid_run.specs.Batches.{AreChanges, Change, IsBatch, all_followed, commands_behind, shared_entries};
 ghost use Rattle.braid_run.specs.Laws.{HasOneBatch, HasOneRun, HasPlaceFacts, HasTip, HaveOneRun, PlaceFactsStay, StaysFinal};
 ghost use Rattle.braid_run.specs.Places.{AgreeOnIds, AreAtPlace};
-ghost use Rattle.braid_run.specs.Published.{ArePublished, IsBehindAll, IsCovered, continued_run, head_ids};
+ghost use Rattle.braid_run.specs.Published.{ArePublished, IsBehindAll, IsCovered, IsSoleHead, continued_run, head_ids};
 ghost use Rattle.braid_run.specs.RunOf.{AreEntriesOf, IsRunOf};
-ghost use Rattle.braid_run.specs.Runs.{run_of};
+ghost use Rattle.braid_run.specs.RunAbove.{AreRowsOfAll, AreRowsTo};
+ghost use Rattle.braid_run.specs.Runs.{rows_behind, run_of};
+ghost use Rattle.policy_meaning.specs.Commands.{judged};
 ghost use Rattle.braid_run.specs.Soundness.{AreLawful, IsSoundExtension, IsLawful, IsSound, Criteria};
 ghost use Rattle.braid_run.specs.States.{Held, IsStanding, MayFollow, extended};
 ghost use Rattle.braid_run.specs.declared.entry.Entry.{Entry};
 ghost use Rattle.command.specs.Ancestors.{AreInLine, heads};
 ghost use Rattle.command.specs.Closed.{IsClosed, IsHeld};
-ghost use Rattle.command.specs.Kinds.{is_finalize, parents_of};
+ghost use Rattle.command.specs.Kinds.{is_finalize, is_merge, parents_of};
 ghost use Rattle.command.specs.Wire.{command_id};
 ghost use Rattle.command.specs.declared.command.Command.{Command};
 ghost use Rattle.fact_store.specs.declared.row.Row.{Row};
@@ -108,4 +110,16 @@ pub fn heads_cover_all()
         → ((id : List ℕ) → Contains ids id → Contains (parents_of command) id ⊎ Contains others id) → IsCovered (commands ++ command ∷ []) (command_id command ∷ others) }
     ensures behind { (commands : List Command) (command : Command) (ids : List (List ℕ)) → IsCovered commands ids
         → ((id : List ℕ) → Contains ids id → Contains (parents_of command) id) → IsBehindAll commands command }
+{}
+
+/// Facts kept of the closure of a command. They are those behind the command over the facts at its place, and where it is the one head, the present
+/// facts. An append leaves them. They are the facts at the place of a command whose one parent it is.
+pub fn kept_facts_go_on()
+    ensures behind { (policy : List PlacedItem) (commands : List Command) (command : Command) (rows : List Row) → IsClosed (commands ++ command ∷ []) → is_merge command ≡ false
+        → AreAtPlace policy commands command rows → AreRowsTo policy (commands ++ command ∷ []) command (rows_behind (judged policy rows command) rows) }
+    ensures head { (policy : List PlacedItem) (commands : List Command) (f : Command) (rows : List Row) → IsSoleHead commands f → AreRowsOfAll policy commands rows → AreRowsTo policy commands f rows }
+    ensures stay { (policy : List PlacedItem) (commands more : List Command) (f : Command) (rows : List Row) → IsClosed commands → IsClosed (commands ++ more) → Contains commands f
+        → AreRowsTo policy commands f rows → AreRowsTo policy (commands ++ more) f rows }
+    ensures child { (policy : List PlacedItem) (commands : List Command) (f command : Command) (rows : List Row) → IsClosed commands → Contains commands f
+        → parents_of command ≡ command_id f ∷ [] → AreRowsTo policy commands f rows → AreAtPlace policy commands command rows }
 {}

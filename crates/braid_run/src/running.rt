@@ -1,9 +1,10 @@
-ghost use Rattle.std.specs.Prelude.{◌≡◌, ◌<◌, ◌+◌, ◌≤◌, List, length, IfOk, OnOk, Some};
+ghost use Rattle.std.specs.Prelude.{◌≡◌, ◌<◌, ◌+◌, ◌*◌, ◌≤◌, ℕ, [], List, length, IfOk, OnOk, Some};
 ghost use Rattle.std.specs.List.{All};
 ghost use Rattle.base_bytes.specs.Reaching.{NoneReachesItself};
 ghost use Rattle.braid.specs.Braids.{IsBraidUnder, picked};
-ghost use Rattle.braid_run.specs.RunOf.{IsCountedRun, IsRunUnder};
-ghost use Rattle.braid_run.specs.Runs.{call_ticks, command_ticks, entry_of, rows_behind, run_of};
+ghost use Rattle.braid_run.specs.RunOf.{IsRunUnder};
+ghost use Rattle.braid_run.specs.RunAbove.{AreAbove, IsRunAbove, IsRunFrom};
+ghost use Rattle.braid_run.specs.Runs.{call_ticks, command_ticks, entry_of, rows_behind, run_from, run_of, run_on};
 ghost use Rattle.command.specs.Ancestors.{IsAt};
 ghost use Rattle.command.specs.Wire.{IsInForm};
 ghost use Rattle.command.specs.declared.command.Command.{Command};
@@ -16,7 +17,7 @@ ghost use Rattle.policy_rules.specs.WellTyped.{items_of};
 
 use crate::{Entries, Entry, Outcome};
 use base_bytes::{Id, NoMemory, Shapes, Steps};
-use braid::braid;
+use braid::{braid, braid_above};
 use command::{Command, Graph};
 use fact_store::FactBase;
 use policy_meaning::{Call, Effects, Runner, Verdict, call_of, shapes};
@@ -137,25 +138,26 @@ fn command_at<G: Graph>(graph: &G, place: usize) -> &Command
     graph.at(place)
 }
 
-/// Runs the commands at these places, in their order, from no facts.
+/// Runs the commands at these places, in their order, on from these facts.
 fn run_places<R: Runner, G: Graph, F: FactBase, L: Ledger>(
     alloc: Global,
     runner: &R,
     shapes: &Shapes,
     graph: &G,
     places: &[usize],
+    mut facts: F,
     steps: &mut Steps<L>,
 ) -> Result<Ran<F>, NoMemory>
     requires places { All (λ place. place < length (G.commands graph.now)) places.now }
     requires shapes { shapes.now ≡ shapes_of (items_of (R.rules runner.now)) }
     requires finite { NoneReachesItself shapes.now }
-    ensures runs { IfOk result (λ ran. IsCountedRun (R.rules runner.now) (picked (G.commands graph.now) places.now) (F.rows ran.facts) ran.entries.all steps.old steps.new) }
+    requires typed { AreTyped (R.rules runner.now) (F.rows facts) }
+    ensures runs { IfOk result (λ ran. IsRunFrom (R.rules runner.now) (F.rows facts) (picked (G.commands graph.now) places.now) (F.rows ran.facts) ran.entries.all steps.old steps.new) }
     ensures typed { IfOk result (λ ran. AreTyped (R.rules runner.now) (F.rows ran.facts)) }
     ensures effects { IfOk result (λ ran. All (λ entry. AreEffectsOf (R.rules runner.now) entry.effects) ran.entries.all) }
-    ensures at_most { steps.new ≤ steps.old + (run_of (R.rules runner.now) (picked (G.commands graph.now) places.now)).ticks }
+    ensures at_most { steps.new ≤ steps.old + (run_on (R.rules runner.now) (run_from (F.rows facts)) (picked (G.commands graph.now) places.now)).ticks }
     ensures later { steps.old ≤ steps.new }
 {
-    let mut facts = F::empty(alloc);
     let mut entries = Entries::new(alloc);
     for place in places {
         let command = command_at(graph, *place);
@@ -187,5 +189,60 @@ pub fn run_all<R: Runner, G: Graph, F: FactBase, L: Ledger>(
     structs_are_finite();
     let shapes = shapes(alloc, policy)?;
     let places = braid(alloc, graph, tips)?;
-    run_places(alloc, runner, &shapes, graph, places.as_slice(), steps)
+    let facts = no_facts::<R, F>(alloc, runner);
+    let ran = run_places(
+        alloc,
+        runner,
+        &shapes,
+        graph,
+        places.as_slice(),
+        facts,
+        steps,
+    )?;
+    Ok(ran)
+}
+
+/// No facts, which are of the types of every policy.
+fn no_facts<R: Runner, F: FactBase>(alloc: Global, runner: &R) -> F
+    ensures rows { F.rows result ≡ [] }
+    ensures typed { AreTyped (R.rules runner.now) (F.rows result) }
+{
+    F::empty(alloc)
+}
+
+/// Runs what stands above the command at the base in the tips' closure, in the order of its braid, on from these facts. The counter rises by the blocks
+/// that were run, two for each of those commands at most.
+pub fn run_above<R: Runner, G: Graph, F: FactBase, L: Ledger>(
+    alloc: Global,
+    runner: &R,
+    graph: &G,
+    base: usize,
+    tips: &[usize],
+    facts: F,
+    steps: &mut Steps<L>,
+) -> Result<Ran<F>, NoMemory>
+    requires base { base < length (G.commands graph.now) }
+    requires tips { All (λ place. place < length (G.commands graph.now)) tips.now }
+    requires typed { AreTyped (R.rules runner.now) (F.rows facts) }
+    ensures runs { IfOk result (λ ran. (f : Command) → IsAt (G.commands graph.now) base f
+        → IsRunAbove (R.rules runner.now) (G.commands graph.now) tips.now f (F.rows facts) (F.rows ran.facts) ran.entries.all steps.old steps.new) }
+    ensures typed { IfOk result (λ ran. AreTyped (R.rules runner.now) (F.rows ran.facts)) }
+    ensures effects { IfOk result (λ ran. All (λ entry. AreEffectsOf (R.rules runner.now) entry.effects) ran.entries.all) }
+    ensures at_most { (f : Command) (n : ℕ) → IsAt (G.commands graph.now) base f → AreAbove (G.commands graph.now) tips.now f n → steps.new ≤ steps.old + 2 * n }
+    ensures later { steps.old ≤ steps.new }
+{
+    let policy = runner.policy();
+    structs_are_finite();
+    let shapes = shapes(alloc, policy)?;
+    let places = braid_above(alloc, graph, base, tips)?;
+    let ran = run_places(
+        alloc,
+        runner,
+        &shapes,
+        graph,
+        places.as_slice(),
+        facts,
+        steps,
+    )?;
+    Ok(ran)
 }

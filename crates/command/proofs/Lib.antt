@@ -8,3 +8,5 @@ pub mod ReachFacts
 pub mod CommandFormats
 pub mod WireLaws
 pub mod WireSizes
+pub mod CutFacts
+pub mod TwoForms

@@ -2,6 +2,8 @@
 pub mod Wire
 pub mod Kinds
 pub mod Each
+pub mod Places
+pub mod Cuts
 pub mod Closed
 pub mod Ancestors
 pub mod Laws

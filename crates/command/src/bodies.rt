@@ -7,11 +7,11 @@ use crate::writing::{write, write_basic, write_body, write_finalize, write_init}
 use base_bytes::{Bytes, Id, NoMemory, Text};
 use std::alloc::Global;
 
-/// The bytes of a command, of which there are at most 4,301.
+/// The bytes of a command, of which there are at most 4,305.
 pub fn to_bytes(alloc: Global, command: &Command) -> Result<Bytes, NoMemory>
     requires { form.IsInForm command.now }
     ensures form { IfOk result (λ bytes. form.IsWire command.now bytes) }
-    ensures size { IfOk result (λ bytes. length bytes ≤ 4301) }
+    ensures size { IfOk result (λ bytes. length bytes ≤ 4305) }
 {
     let mut out = Growing::new(alloc);
     write(&mut out, command)?;
@@ -31,22 +31,24 @@ pub fn body_of(alloc: Global, command: &Command) -> Result<Bytes, NoMemory>
 /// The body of an init that has no tag yet.
 pub fn init_body(
     alloc: Global,
+    cut: Option<u32>,
     digest: &Id,
     author: &Id,
     name: &Text,
     payload: &Bytes,
 ) -> Result<Bytes, NoMemory>
     requires { form.AreContent name.now payload.now }
-    ensures { IfOk result (λ bytes. bytes ≡ form.init_body digest.now author.now name.now payload.now) }
+    ensures { IfOk result (λ bytes. bytes ≡ form.init_body cut digest.now author.now name.now payload.now) }
 {
     let mut out = Growing::new(alloc);
-    write_init(&mut out, digest, author, name, payload)?;
+    write_init(&mut out, cut, digest, author, name, payload)?;
     Ok(out.bytes)
 }
 
 /// The body of a basic command that has no tag yet.
 pub fn basic_body(
     alloc: Global,
+    cut: Option<u32>,
     priority: u32,
     parent: &Id,
     author: &Id,
@@ -54,25 +56,26 @@ pub fn basic_body(
     payload: &Bytes,
 ) -> Result<Bytes, NoMemory>
     requires { form.AreContent name.now payload.now }
-    ensures { IfOk result (λ bytes. bytes ≡ form.basic_body priority parent.now author.now name.now payload.now) }
+    ensures { IfOk result (λ bytes. bytes ≡ form.basic_body cut priority parent.now author.now name.now payload.now) }
 {
     let mut out = Growing::new(alloc);
-    write_basic(&mut out, priority, parent, author, name, payload)?;
+    write_basic(&mut out, cut, priority, parent, author, name, payload)?;
     Ok(out.bytes)
 }
 
 /// The body of a finalize that has no tag yet.
 pub fn finalize_body(
     alloc: Global,
+    cut: Option<u32>,
     parent: &Id,
     author: &Id,
     name: &Text,
     payload: &Bytes,
 ) -> Result<Bytes, NoMemory>
     requires { form.AreContent name.now payload.now }
-    ensures { IfOk result (λ bytes. bytes ≡ form.finalize_body parent.now author.now name.now payload.now) }
+    ensures { IfOk result (λ bytes. bytes ≡ form.finalize_body cut parent.now author.now name.now payload.now) }
 {
     let mut out = Growing::new(alloc);
-    write_finalize(&mut out, parent, author, name, payload)?;
+    write_finalize(&mut out, cut, parent, author, name, payload)?;
     Ok(out.bytes)
 }

@@ -3,11 +3,13 @@ ghost use Rattle.std.specs.Prelude.{◌≡◌, IfOk};
 use base_bytes::{Bytes, Id, NoMemory, Tag, Text};
 use std::alloc::Global;
 
-/// A command of the graph. Its id isn't among its fields: it is the digest of its bytes.
+/// A command of the graph. Its id isn't among its fields: it is the digest of its bytes. A command of version 1 has no cut, and one
+/// of version 2 carries it.
 #[derive(Drop)]
 pub enum Command {
     /// The first command of a graph. It names the policy by its digest.
     Init {
+        cut: Option<u32>,
         digest: Id,
         author: Id,
         name: Text,
@@ -15,6 +17,7 @@ pub enum Command {
         tag: Tag,
     },
     Basic {
+        cut: Option<u32>,
         priority: u32,
         parent: Id,
         author: Id,
@@ -23,6 +26,7 @@ pub enum Command {
         tag: Tag,
     },
     Finalize {
+        cut: Option<u32>,
         parent: Id,
         author: Id,
         name: Text,
@@ -31,6 +35,7 @@ pub enum Command {
     },
     /// It joins two heads, of which the left one has the smaller id.
     Merge {
+        cut: Option<u32>,
         left: Id,
         right: Id,
     },
@@ -42,12 +47,14 @@ impl Command {
     {
         match self {
             Command::Init {
+                cut,
                 digest,
                 author,
                 name,
                 payload,
                 tag,
             } => Ok(Command::Init {
+                cut: *cut,
                 digest: *digest,
                 author: *author,
                 name: name.copy(alloc)?,
@@ -55,6 +62,7 @@ impl Command {
                 tag: tag.copy(),
             }),
             Command::Basic {
+                cut,
                 priority,
                 parent,
                 author,
@@ -62,6 +70,7 @@ impl Command {
                 payload,
                 tag,
             } => Ok(Command::Basic {
+                cut: *cut,
                 priority: *priority,
                 parent: *parent,
                 author: *author,
@@ -70,19 +79,22 @@ impl Command {
                 tag: tag.copy(),
             }),
             Command::Finalize {
+                cut,
                 parent,
                 author,
                 name,
                 payload,
                 tag,
             } => Ok(Command::Finalize {
+                cut: *cut,
                 parent: *parent,
                 author: *author,
                 name: name.copy(alloc)?,
                 payload: payload.copy(alloc)?,
                 tag: tag.copy(),
             }),
-            Command::Merge { left, right } => Ok(Command::Merge {
+            Command::Merge { cut, left, right } => Ok(Command::Merge {
+                cut: *cut,
                 left: *left,
                 right: *right,
             }),

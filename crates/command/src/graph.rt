@@ -2,7 +2,8 @@ ghost use Rattle.std.specs.Prelude.{◌≡◌, ◌+◌, ◌<◌, ◌≤◌, ◌�
 ghost use Rattle.std.specs.List.{Contains};
 ghost use Rattle.command.specs.Ancestors.{Ancestor, IsAt, heads};
 ghost use Rattle.command.specs.Closed.{IsClosed, IsHeld, max_commands, place_of};
-ghost use Rattle.command.specs.Kinds.{parents_of};
+ghost use Rattle.command.specs.Cuts.{cut_behind};
+ghost use Rattle.command.specs.Kinds.{carried, parents_of};
 ghost use Rattle.command.specs.Wire.{IsInForm, command_id};
 ghost use Rattle.command.specs.declared.command.Command.{Command as TheCommand};
 
@@ -65,13 +66,15 @@ pub trait Graph: Sized + Drop {
         ensures commands { commands self.new ≡ commands self.old }
         ensures kept { room self.old ≤ room self.new };
 
-    /// Appends a command, whose parents are held and whose id isn't, and answers its place.
+    /// Appends a command, whose parents are held, whose id isn't, and whose cut is the one that it carries, if it carries one. Answers
+    /// its place.
     fn append(&mut self, command: Command) -> usize
         requires room { 0 < room self.old }
         requires few { length (commands self.old) < max_commands }
         requires formed { IsInForm command }
         requires fresh { IsHeld (commands self.old) (command_id command) → ⊥ }
         requires held { (parent : List ℕ) → Contains (parents_of command) parent → IsHeld (commands self.old) parent }
+        requires cut { (stated : ℕ) → carried command ≡ Some stated → stated ≡ cut_behind (commands self.old) command }
         ensures place { result ≡ length (commands self.old) }
         ensures commands { commands self.new ≡ commands self.old ++ command ∷ [] }
         ensures room { room self.new + 1 ≡ room self.old };

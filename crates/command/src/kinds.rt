@@ -4,7 +4,7 @@ use crate::command::Command;
 use crate::parents::Parents;
 
 impl Command {
-    ghost use Rattle.command.specs.Kinds.{is_finalize, is_merge, parents_of, priority_of};
+    ghost use Rattle.command.specs.Kinds.{carried, is_finalize, is_merge, parents_of, priority_of};
 
     /// The ids of its parents, the left one first. Takes no memory.
     pub fn parents(&self) -> Parents
@@ -14,7 +14,19 @@ impl Command {
             Command::Init { .. } => Parents::none(),
             Command::Basic { parent, .. } => Parents::one(parent),
             Command::Finalize { parent, .. } => Parents::one(parent),
-            Command::Merge { left, right } => Parents::two(left, right),
+            Command::Merge { left, right, .. } => Parents::two(left, right),
+        }
+    }
+
+    /// The cut that it carries; None in version 1.
+    pub fn cut(&self) -> Option<u32>
+        ensures { result ≡ carried self.now }
+    {
+        match self {
+            Command::Init { cut, .. } => *cut,
+            Command::Basic { cut, .. } => *cut,
+            Command::Finalize { cut, .. } => *cut,
+            Command::Merge { cut, .. } => *cut,
         }
     }
 

@@ -4,6 +4,7 @@
 mod bodies;
 mod command;
 mod commands;
+mod cuts;
 mod digest;
 mod graph;
 mod kinds;
@@ -17,6 +18,7 @@ mod writing;
 pub use bodies::{basic_body, body_of, finalize_body, init_body, to_bytes};
 pub use command::Command;
 pub use commands::Commands;
+pub use cuts::cut_of;
 pub use digest::id_of;
 pub use graph::{Graph, MAX_COMMANDS};
 pub use laws::{ancestors_are_older, commands_are_unambiguous, limits_are_as_defined};

@@ -5,7 +5,7 @@ ghost use Rattle.command.specs.Wire.{IsCountedFront, IsWire};
 ghost use Rattle.command.specs.declared.command.Command.{Command};
 
 use crate::command::Command;
-use crate::writing::{BASIC, FINALIZE, INIT, MERGE, VERSION};
+use crate::writing::{BASIC, FINALIZE, INIT, MERGE, PLAIN, WITH_CUT};
 use base_bytes::{Bytes, NoMemory, Reader, Tag, Text, Unread, is_word, or_none};
 use std::alloc::Global;
 use std::cmp::Ordering;
@@ -42,25 +42,49 @@ fn read_whole(alloc: Global, bytes: &[u8]) -> Result<Command, Unread>
 fn read_command(alloc: Global, reader: &mut Reader) -> Result<Command, Unread>
     ensures { Reads (λ command. command) result reader.new (reading.command_at reader.old) }
 {
-    if reader.u8()? != VERSION {
-        return Err(Unread::Malformed);
-    }
+    let (kind, cut) = read_header(reader)?;
+    read_kind(alloc, reader, cut, kind)
+}
+
+fn read_header(reader: &mut Reader) -> Result<(u8, Option<u32>), Unread>
+    ensures { Reads (λ front. front) result reader.new (reading.header_at reader.old) }
+{
     match reader.u8()? {
-        INIT => read_init(alloc, reader),
-        BASIC => read_basic(alloc, reader),
-        FINALIZE => read_finalize(alloc, reader),
-        MERGE => read_merge(reader),
+        PLAIN => Ok((reader.u8()?, None)),
+        WITH_CUT => {
+            let kind = reader.u8()?;
+            let cut = reader.u32()?;
+            Ok((kind, Some(cut)))
+        }
         _ => Err(Unread::Malformed),
     }
 }
 
-fn read_init(alloc: Global, reader: &mut Reader) -> Result<Command, Unread>
-    ensures { Reads (λ command. command) result reader.new (reading.init_at reader.old) }
+fn read_kind(
+    alloc: Global,
+    reader: &mut Reader,
+    cut: Option<u32>,
+    kind: u8,
+) -> Result<Command, Unread>
+    ensures { Reads (λ command. command) result reader.new (reading.kind_at cut kind reader.old) }
+{
+    match kind {
+        INIT => read_init(alloc, reader, cut),
+        BASIC => read_basic(alloc, reader, cut),
+        FINALIZE => read_finalize(alloc, reader, cut),
+        MERGE => read_merge(reader, cut),
+        _ => Err(Unread::Malformed),
+    }
+}
+
+fn read_init(alloc: Global, reader: &mut Reader, cut: Option<u32>) -> Result<Command, Unread>
+    ensures { Reads (λ command. command) result reader.new (reading.init_at cut reader.old) }
 {
     let digest = reader.id()?;
     let author = reader.id()?;
     let (name, payload, tag) = read_content(alloc, reader)?;
     Ok(Command::Init {
+        cut,
         digest,
         author,
         name,
@@ -69,14 +93,15 @@ fn read_init(alloc: Global, reader: &mut Reader) -> Result<Command, Unread>
     })
 }
 
-fn read_basic(alloc: Global, reader: &mut Reader) -> Result<Command, Unread>
-    ensures { Reads (λ command. command) result reader.new (reading.basic_at reader.old) }
+fn read_basic(alloc: Global, reader: &mut Reader, cut: Option<u32>) -> Result<Command, Unread>
+    ensures { Reads (λ command. command) result reader.new (reading.basic_at cut reader.old) }
 {
     let priority = reader.u32()?;
     let parent = reader.id()?;
     let author = reader.id()?;
     let (name, payload, tag) = read_content(alloc, reader)?;
     Ok(Command::Basic {
+        cut,
         priority,
         parent,
         author,
@@ -86,13 +111,14 @@ fn read_basic(alloc: Global, reader: &mut Reader) -> Result<Command, Unread>
     })
 }
 
-fn read_finalize(alloc: Global, reader: &mut Reader) -> Result<Command, Unread>
-    ensures { Reads (λ command. command) result reader.new (reading.finalize_at reader.old) }
+fn read_finalize(alloc: Global, reader: &mut Reader, cut: Option<u32>) -> Result<Command, Unread>
+    ensures { Reads (λ command. command) result reader.new (reading.finalize_at cut reader.old) }
 {
     let parent = reader.id()?;
     let author = reader.id()?;
     let (name, payload, tag) = read_content(alloc, reader)?;
     Ok(Command::Finalize {
+        cut,
         parent,
         author,
         name,
@@ -101,13 +127,13 @@ fn read_finalize(alloc: Global, reader: &mut Reader) -> Result<Command, Unread>
     })
 }
 
-fn read_merge(reader: &mut Reader) -> Result<Command, Unread>
-    ensures { Reads (λ command. command) result reader.new (reading.merge_at reader.old) }
+fn read_merge(reader: &mut Reader, cut: Option<u32>) -> Result<Command, Unread>
+    ensures { Reads (λ command. command) result reader.new (reading.merge_at cut reader.old) }
 {
     let left = reader.id()?;
     let right = reader.id()?;
     match left.cmp(&right) {
-        Ordering::Less => Ok(Command::Merge { left, right }),
+        Ordering::Less => Ok(Command::Merge { cut, left, right }),
         _ => Err(Unread::Malformed),
     }
 }

@@ -1,9 +1,10 @@
-ghost use Rattle.std.specs.Prelude.{◌≡◌, ◌≤◌, ◌<◌, ◌+◌, ◌↔◌, ℕ, IsTrue, List, [], ◌∷◌, ◌++◌, length, vec_capacity, IfOk, OnOk, OnErr};
+ghost use Rattle.std.specs.Prelude.{◌≡◌, ◌≤◌, ◌<◌, ◌+◌, ◌↔◌, ℕ, IsTrue, List, [], ◌∷◌, ◌++◌, length, vec_capacity, IfOk, Some, OnOk, OnErr};
 ghost use Rattle.std.specs.List.{Contains, list_any};
 ghost use Rattle.std.specs.Str.{bytes_eq};
 ghost use Rattle.command.specs.Ancestors.{Ancestor, IsAt, places_without};
 ghost use Rattle.command.specs.Closed.{IsHeld, IsNext, max_commands, place_of};
-ghost use Rattle.command.specs.Kinds.{parents_of};
+ghost use Rattle.command.specs.Cuts.{cut_behind};
+ghost use Rattle.command.specs.Kinds.{carried, parents_of};
 ghost use Rattle.command.specs.Wire.{IsInForm, command_id};
 ghost use Rattle.command.specs.declared.command.Command.{Command as TheCommand};
 ghost use Rattle.graph_over.specs.working.Added.{IsOver, over_prop};
@@ -88,6 +89,7 @@ impl<'a, G: Graph> Over<'a, G> {
         requires formed { IsInForm command }
         requires fresh { IsHeld (G.commands self.old.base.now ++ self.old.added.items) (command_id command) → ⊥ }
         requires held { (parent : List ℕ) → Contains (parents_of command) parent → IsHeld (G.commands self.old.base.now ++ self.old.added.items) parent }
+        requires cut { (stated : ℕ) → carried command ≡ Some stated → stated ≡ cut_behind (G.commands self.old.base.now ++ self.old.added.items) command }
         ensures base { G.commands self.new.base.now ≡ G.commands self.old.base.now }
         ensures added { self.new.added.items ≡ self.old.added.items ++ command ∷ [] }
         ensures room { self.new.room + 1 ≡ self.old.room }

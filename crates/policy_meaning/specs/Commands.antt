@@ -27,10 +27,10 @@ pub record Content : Type 0 where
   pub author : List ℕ
 
 abbrev pub content_of : Command → Option Content
-content_of (command.Init digest author name payload tag) = Some (record { name = name; payload = payload; author = author })
-content_of (command.Basic priority parent author name payload tag) = Some (record { name = name; payload = payload; author = author })
-content_of (command.Finalize parent author name payload tag) = Some (record { name = name; payload = payload; author = author })
-content_of (command.Merge left right) = None
+content_of (command.Init cut digest author name payload tag) = Some (record { name = name; payload = payload; author = author })
+content_of (command.Basic cut priority parent author name payload tag) = Some (record { name = name; payload = payload; author = author })
+content_of (command.Finalize cut parent author name payload tag) = Some (record { name = name; payload = payload; author = author })
+content_of (command.Merge cut left right) = None
 
 -- The item number of the command of this name, where the policy declares one.
 abbrev pub command_number : List Item → Name → Option ℕ

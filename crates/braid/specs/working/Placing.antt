@@ -12,6 +12,7 @@ use Rattle.command.specs.Closed.{place_of}
 use Rattle.command.specs.Each.{EachAfter}
 use Rattle.command.specs.Kinds.{is_finalize, is_merge, parents_of, priority_of}
 use Rattle.command.specs.Wire.{command_id}
+use Rattle.braid.specs.Bases.{IsRest}
 use Rattle.braid.specs.Braids.{IsPlaced, picked}
 
 -- the command stands at one of these places
@@ -60,12 +61,17 @@ struck place places = filter (λ p. not (p == place)) places
 
 -- how far the braid is: places that remain, those of them that are the parent of none that remains, and those that are placed, the
 -- highest first. The commands that remain and are no merges, in some order, may still be placed before the others.
-pub record Placing (cs : List Command) (tips remaining tops placed : List ℕ) : Type 0 where
+pub record Placing (cs : List Command) (bases tips remaining tops placed : List ℕ) : Type 0 where
   pub within : (place : ℕ) → Contains remaining place → place < length cs
   pub free : (place : ℕ) → Contains tops place ↔ (Contains remaining place × IsFree cs remaining place)
-  pub down : (m y : Command) → IsParent cs m y → IsAmong cs remaining y → IsAmong cs remaining m
+  pub down : (m y : Command) → IsParent cs m y → IsAmong cs remaining y → ¬ IsUnder cs bases m → IsAmong cs remaining m
+  pub left : (z : Command) → IsAmong cs remaining z → ¬ IsUnder cs bases z
   pub plain : List Command
   pub plain_is : (z : Command) → Contains plain z ↔ (IsAmong cs remaining z × (is_merge z ≡ false))
   pub order : EachAfter (IsPlaced cs) plain (picked cs (reverse placed))
-  pub holds : (x : Command) → (Contains plain x ⊎ Contains (picked cs (reverse placed)) x) ↔ (Contains cs x × IsUnder cs tips x × (is_merge x ≡ false))
+  pub holds : (x : Command) → (Contains plain x ⊎ Contains (picked cs (reverse placed)) x) ↔ (Contains cs x × IsRest cs bases tips x × (is_merge x ≡ false))
   pub done : All (λ place. place < length cs) placed
+
+-- p is of the places; or it is the tip, and that is left
+abbrev pub HasOrIs : Bool → ℕ → List ℕ → ℕ → Type 0
+HasOrIs skipped tip places p = Contains places p ⊎ ((tip ≡ p) × (skipped ≡ false))

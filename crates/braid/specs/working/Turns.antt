@@ -1,5 +1,5 @@
 -- The heap of the commands that may come next, and the children that remain of each command.
-use Rattle.std.specs.Prelude.{◌≡◌, ℕ, ◌+◌, ◌==◌, ◌≤◌, if◌then◌else◌, List, [], ◌∷◌, length, map, Some, slice_get, get_or}
+use Rattle.std.specs.Prelude.{◌≡◌, ℕ, ◌+◌, ◌==◌, ◌≤◌, if◌then◌else◌, Bool, false, List, [], ◌∷◌, length, map, Some, slice_get, get_or}
 use Rattle.std.specs.BinaryHeap.{IsHeap}
 use Rattle.std.specs.Cmp.Lexicographic.{slice_cmp}
 use Rattle.std.specs.List.{All, Contains}
@@ -11,7 +11,7 @@ use Rattle.command.specs.Ancestors.{IsAt}
 use Rattle.command.specs.Kinds.{is_finalize, is_merge, priority_of}
 use Rattle.command.specs.Wire.{command_id}
 use Rattle.braid.specs.declared.turns.Turn.{Turn}
-use Rattle.braid.specs.working.Links.{parents_at, sum_of, times}
+use Rattle.braid.specs.working.Links.{parents_left, sum_of, times}
 
 -- the one is to be taken before the other
 abbrev pub IsSooner : Turn → Turn → Type 0
@@ -44,8 +44,8 @@ abbrev pub spots : List Turn → List ℕ
 spots turns = map (λ turn. turn.place) turns
 
 -- how many links lead to a place from those places, and from these commands' links that weren't yet taken off
-abbrev pub waiting : List Command → List ℕ → List ℕ → ℕ → ℕ
-waiting cs due remaining p = times p due + sum_of (λ q. times p (parents_at cs q)) remaining
+abbrev pub waiting : List Command → (ℕ → Bool) → List ℕ → List ℕ → ℕ → ℕ
+waiting cs skip due remaining p = times p due + sum_of (λ q. times p (parents_left cs skip q)) remaining
 
 -- the turn of a command is put to the others where no child of it remains
 pub record Offers (cs : List Command) (places : List ℕ) (number children : ℕ) (old new : List Turn) : Type 0 where
@@ -54,8 +54,9 @@ pub record Offers (cs : List Command) (places : List ℕ) (number children : ℕ
   pub length : length new ≤ length old + (if children == 0 then 1 else 0)
 
 -- the counts of children are right, and the heap holds the turns of those commands that remain and have no children, each once
-pub record Standing (cs : List Command) (places children : List ℕ) (heap : List Turn) (due remaining : List ℕ) : Type 0 where
-  pub counted : (k p : ℕ) → slice_get places k ≡ Some p → get_or children k 0 ≡ waiting cs due remaining p
-  pub ready : (p : ℕ) → times p (spots heap) ≡ (if waiting cs due remaining p == 0 then times p remaining else 0)
+pub record Standing (cs : List Command) (skip : ℕ → Bool) (places children : List ℕ) (heap : List Turn) (due remaining : List ℕ) : Type 0 where
+  pub counted : (k p : ℕ) → slice_get places k ≡ Some p → get_or children k 0 ≡ waiting cs skip due remaining p
+  pub ready : (p : ℕ) → times p (spots heap) ≡ (if waiting cs skip due remaining p == 0 then times p remaining else 0)
   pub turns : All (IsTurn cs places) heap
   pub remain : (p : ℕ) → Contains due p → Contains remaining p
+  pub left : (p : ℕ) → Contains remaining p → skip p ≡ false

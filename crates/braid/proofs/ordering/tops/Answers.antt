@@ -17,18 +17,19 @@ loop-number-preserved g c =
     record {
       order = c.offer.ensures.heap;
       turns = c.in_ok-offer.ensures.offers.turns c.loop-number.invariant.turns;
-      ready = λ counted.
-          topped cs (g.met.G.Graph.closed c.args.graph.now) places c.args.children.now (heap_items c.loop-number.heap) (heap_items c.offer.new.heap) i (get_or places i 0) at (counted i (get_or places i 0) at) c.in_ok-offer.ensures.offers
-          (c.loop-number.invariant.ready counted);
+      ready = λ skip counted.
+          topped cs (g.met.G.Graph.closed c.args.graph.now) skip places c.args.children.now (heap_items c.loop-number.heap) (heap_items c.offer.new.heap) i (get_or places i 0) at (counted i (get_or places i 0) at) c.in_ok-offer.ensures.offers
+          (c.loop-number.invariant.ready skip counted);
     }
 
 pub returns-clause-standing : goal.returns-clause-standing
-returns-clause-standing g c = λ counted.
+returns-clause-standing g c = λ skip counted lefts.
     let cs = g.G.Graph.commands c.args.graph.now in
     let places = c.args.places.now in
     record {
       counted = counted;
-      ready = λ p. c.loop-number.invariant.ready counted p ∙ ap (λ l. if waiting cs [] places p == 0 then times p l else 0) (take_all c.loop-number.number places (omega (arith, c.loop-number-test.false)));
+      ready = λ p. c.loop-number.invariant.ready skip counted p ∙ ap (λ l. if waiting cs skip [] places p == 0 then times p l else 0) (take_all c.loop-number.number places (omega (arith, c.loop-number-test.false)));
       turns = c.loop-number.invariant.turns;
       remain = λ p h. absurd (none_element p h);
+      left = lefts;
     }

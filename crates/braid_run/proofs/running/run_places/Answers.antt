@@ -1,14 +1,13 @@
 use Rattle.std.proofs.Common.{refl, subst, sym, arith, rules}
 use Rattle.std.specs.List.{All}
-use Rattle.policy_meaning.specs.Typed.{AreEffectsOf, AreTyped}
-use Rattle.policy_meaning.proofs.TypedFacts.{typed_none}
+use Rattle.policy_meaning.specs.Typed.{AreEffectsOf}
 use Rattle.braid_run.proofs.RunFacts.{all_more, one_more_run, ran_whole, stays_within}
 use Rattle.braid_run.proofs.running.run_places.Goals as goal
 
 pub loop-place-init : goal.loop-place-init
 loop-place-init g c = record {
-  continues = rw (c.empty-facts.ensures, c.new-entries.ensures) refl;
-  typed = subst (λ rows. AreTyped (g.R.Runner.rules c.args.runner.now) rows) (sym c.empty-facts.ensures) (typed_none (g.R.Runner.rules c.args.runner.now));
+  continues = rw c.new-entries.ensures refl;
+  typed = c.requires.typed;
   effects = subst (λ entries. All (λ entry. AreEffectsOf (g.R.Runner.rules c.args.runner.now) entry.effects) entries) (sym c.new-entries.ensures) (λ k d within. absurd (omega (arith, within)));
   later = omega arith;
 }
@@ -27,24 +26,24 @@ loop-place-preserved g c = record {
 
 pub returns-clause-runs : goal.returns-clause-runs
 returns-clause-runs g c =
-    ran_whole (g.R.Runner.rules c.args.runner.now) (g.G.Graph.commands c.args.graph.now) c.args.places.now c.loop-place.place-index (g.F.FactBase.rows c.loop-place.facts) c.loop-place.entries.all
+    ran_whole (g.R.Runner.rules c.args.runner.now) (g.F.FactBase.rows c.args.facts) (g.G.Graph.commands c.args.graph.now) c.args.places.now c.loop-place.place-index (g.F.FactBase.rows c.loop-place.facts) c.loop-place.entries.all
     c.args.steps.now c.loop-place.steps (search rules) c.loop-place.invariant.continues
 
 pub returns-in_err-entry-clause-at_most : goal.returns-in_err-entry-clause-at_most
 returns-in_err-entry-clause-at_most g c =
-    stays_within (g.R.Runner.rules c.args.runner.now) (g.G.Graph.commands c.args.graph.now) c.args.places.now c.loop-place.place-index _ c.command_at-command.result.now
+    stays_within (g.R.Runner.rules c.args.runner.now) (g.F.FactBase.rows c.args.facts) (g.G.Graph.commands c.args.graph.now) c.args.places.now c.loop-place.place-index _ c.command_at-command.result.now
     (record { rows = g.F.FactBase.rows c.loop-place.facts; entries = c.loop-place.entries.all; ticks = c.loop-place.steps }) c.args.steps.now c.run_command.new.steps (search rules) refl
     c.command_at-command.ensures.at c.run_command.ensures.at_most c.loop-place.invariant.continues
 
 pub returns-in_err-push-clause-at_most : goal.returns-in_err-push-clause-at_most
 returns-in_err-push-clause-at_most g c =
-    stays_within (g.R.Runner.rules c.args.runner.now) (g.G.Graph.commands c.args.graph.now) c.args.places.now c.loop-place.place-index _ c.command_at-command.result.now
+    stays_within (g.R.Runner.rules c.args.runner.now) (g.F.FactBase.rows c.args.facts) (g.G.Graph.commands c.args.graph.now) c.args.places.now c.loop-place.place-index _ c.command_at-command.result.now
     (record { rows = g.F.FactBase.rows c.loop-place.facts; entries = c.loop-place.entries.all; ticks = c.loop-place.steps }) c.args.steps.now c.run_command.new.steps (search rules) refl
     c.command_at-command.ensures.at c.run_command.ensures.at_most c.loop-place.invariant.continues
 
 pub returns-clause-at_most : goal.returns-clause-at_most
 returns-clause-at_most g c =
     let ran =
-    ran_whole (g.R.Runner.rules c.args.runner.now) (g.G.Graph.commands c.args.graph.now) c.args.places.now c.loop-place.place-index (g.F.FactBase.rows c.loop-place.facts)
+    ran_whole (g.R.Runner.rules c.args.runner.now) (g.F.FactBase.rows c.args.facts) (g.G.Graph.commands c.args.graph.now) c.args.places.now c.loop-place.place-index (g.F.FactBase.rows c.loop-place.facts)
     c.loop-place.entries.all c.args.steps.now c.loop-place.steps (search rules) c.loop-place.invariant.continues in
     let counted = ran.counted in omega (arith, counted)

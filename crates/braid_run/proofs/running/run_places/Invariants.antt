@@ -10,7 +10,7 @@ abbrev pub invariant-loop-place : goal.invariant-loop-place
 invariant-loop-place g l = record {
   continues :
       run_on (g.R.Runner.rules l.runner) (record { rows = g.F.FactBase.rows l.facts; entries = l.entries.all; ticks = l.steps }) (picked (g.G.Graph.commands l.graph) (drop l.place-index l.places))
-      ≡ run_on (g.R.Runner.rules l.runner) (record { rows = []; entries = []; ticks = l.fn.steps }) (picked (g.G.Graph.commands l.graph) l.places);
+      ≡ run_on (g.R.Runner.rules l.runner) (record { rows = g.F.FactBase.rows l.fn.facts; entries = []; ticks = l.fn.steps }) (picked (g.G.Graph.commands l.graph) l.places);
   typed : AreTyped (g.R.Runner.rules l.runner) (g.F.FactBase.rows l.facts);
   effects : All (λ entry. AreEffectsOf (g.R.Runner.rules l.runner) entry.effects) l.entries.all;
   later : l.fn.steps ≤ l.steps;

@@ -6,6 +6,7 @@ use Rattle.command.proofs.bodies.to_bytes.Goals as goal
 pub returns-clause-form : goal.returns-clause-form
 returns-clause-form c = record {
   in_form = c.requires;
+  cut = c.in_ok-write.ensures.cut;
   front = c.in_ok-write.ensures.front;
   tag = c.in_ok-write.ensures.tag;
   spelled = c.in_ok-write.ensures.told.more [] c.new-out.ensures;
@@ -15,6 +16,7 @@ pub returns-clause-size : goal.returns-clause-size
 returns-clause-size c =
     let told : IsWire c.args.command.now c.write.new.out.bytes = record {
       in_form = c.requires;
+      cut = c.in_ok-write.ensures.cut;
       front = c.in_ok-write.ensures.front;
       tag = c.in_ok-write.ensures.tag;
       spelled = c.in_ok-write.ensures.told.more [] c.new-out.ensures;

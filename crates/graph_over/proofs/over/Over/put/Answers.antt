@@ -16,4 +16,4 @@ invariant_of-self-clause-graph g c =
     let below = g.G.Graph.commands s.base.now in
     subst (λ l. IsOver below l c.store.new.commands.items) (sym c.note.ensures.keys)
     (subst (λ l. IsOver below (s.ids.keys ++ c.id_of-id.result ∷ []) l) (sym c.store.ensures.items)
-    (over_more below s.added.items s.ids.keys c.args.command c.id_of-id.result s.graph (record { formed = c.id_of-id.ensures.formed; fresh = c.requires.fresh; held = c.requires.held }) c.requires.few c.id_of-id.ensures.id))
+    (over_more below s.added.items s.ids.keys c.args.command c.id_of-id.result s.graph (record { formed = c.id_of-id.ensures.formed; fresh = c.requires.fresh; held = c.requires.held; cut = c.requires.cut }) c.requires.few c.id_of-id.ensures.id))

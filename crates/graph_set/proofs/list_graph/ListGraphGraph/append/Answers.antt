@@ -25,7 +25,7 @@ invariant_of-self c =
       graph = record {
         named = c.in-Ok.ensures.keys;
         closed = subst IsClosed (sym grown)
-            (each_more IsNext cs c.args.command c.args.self.now.graph.closed (record { formed = c.in-Ok.ensures.formed; fresh = c.requires.fresh; held = c.requires.held }));
+            (each_more IsNext cs c.args.command c.args.self.now.graph.closed (record { formed = c.in-Ok.ensures.formed; fresh = c.requires.fresh; held = c.requires.held; cut = c.requires.cut }));
         few = subst (λ l. length l ≤ max_commands) (sym grown) (omega (arith, c.requires.few, length-append cs (c.args.command ∷ [])));
       };
       roomy = omega (arith, c.args.self.now.roomy, c.requires.room, c.put.ensures.spare);
