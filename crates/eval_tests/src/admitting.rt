@@ -44,6 +44,7 @@ fn reason_text(alloc: Global, graph: &ListGraph, reason: &Reason) -> Result<Text
         Reason::Collision { .. } => command_reason(alloc, &CommandRefusal::Collision),
         Reason::OtherInit => command_reason(alloc, &CommandRefusal::OtherInit),
         Reason::MissingParent(id) => with_place(alloc, graph, "missing parent ", id),
+        Reason::WrongCut { .. } => command_reason(alloc, &CommandRefusal::WrongCut),
         Reason::BadEnvelope => command_reason(alloc, &CommandRefusal::BadEnvelope),
         Reason::Policy(why) => command_reason(alloc, &policy_refusal(*why)),
         Reason::ParallelFinalize(id) => with_place(alloc, graph, "parallel finalize ", id),

@@ -69,6 +69,7 @@ for_now : (cs : List Command) (c : Command) (why : Reason) → IsHindered cs c w
 for_now cs c (reason.Collision id held) is = absurd is
 for_now cs c reason.OtherInit is = absurd is
 for_now cs c (reason.MissingParent id) is = tt
+for_now cs c (reason.WrongCut stated real) is = absurd is
 for_now cs c reason.BadEnvelope is = absurd is
 for_now cs c (reason.Policy why) is = absurd is
 for_now cs c (reason.ParallelFinalize id) is = tt

@@ -78,6 +78,7 @@ module _ (welcome : AreWelcome) (criteria : Criteria) (id : List ℕ) (end last 
         not_hindered (reason.Collision i bytes) is = is
         not_hindered reason.OtherInit is = is
         not_hindered (reason.MissingParent i) is = is.1 (parents i is.0)
+        not_hindered (reason.WrongCut stated real) is = is
         not_hindered reason.BadEnvelope is = is
         not_hindered (reason.Policy why) is = is
         not_hindered (reason.ParallelFinalize i) is = not_parallel is.1.0 is.1.1 is.1.2 is.0 is.1.4

@@ -1,7 +1,7 @@
 -- What is true of every replica stays true of it.
 use Rattle.std.proofs.Common.{◌≡◌, ℕ, Bool, true, if◌then◌else◌, List, [], ◌∷◌, ◌++◌, Option, Some, None, refl, sym, ap, subst, append_assoc, append-nil}
 use Rattle.std.specs.List.{All, Contains}
-use Rattle.accept.specs.Admission.{IsAdmission, bad_envelope, by_held, by_reason, first_of, has_good_tag, held_with, ill_formed, late_reasons, missing_parent, other_init}
+use Rattle.accept.specs.Admission.{IsAdmission, bad_envelope, by_held, by_reason, first_of, has_good_tag, held_with, ill_formed, late_reasons, missing_parent, other_init, wrong_cut}
 use Rattle.accept.specs.Takes.{IsTake, IsTakenOn, Tally, counted, no_tally}
 use Rattle.accept.specs.declared.answer.Admit.{Admit}
 use Rattle.accept.specs.declared.answer.Admit.TheVariants.{Added, Repeat, Refused}
@@ -22,19 +22,20 @@ use Rattle.std.specs.Prelude.{option_map}
 use Rattle.sync_codec.specs.declared.response.Response.{Response}
 
 -- a command that is added with its tag tested is added with every tag
-without_test : (c : Command) (held : Option Command) (a b e : Option Reason) (more : List (Option Reason)) → Added ≡ by_held c held (by_reason (first_of (a ∷ b ∷ e ∷ more))) →
-    Added ≡ by_held c held (by_reason (first_of (a ∷ b ∷ None ∷ more)))
-without_test c (Some x) a b e more is = is
-without_test c None (Some why) b e more is = is
-without_test c None None (Some why) e more is = is
-without_test c None None None None more is = is
-without_test c None None None (Some why) more is = absurd cc
+without_test : (c : Command) (held : Option Command) (a b w e : Option Reason) (more : List (Option Reason)) → Added ≡ by_held c held (by_reason (first_of (a ∷ b ∷ w ∷ e ∷ more))) →
+    Added ≡ by_held c held (by_reason (first_of (a ∷ b ∷ w ∷ None ∷ more)))
+without_test c (Some x) a b w e more is = is
+without_test c None (Some why) b w e more is = is
+without_test c None None (Some why) w e more is = is
+without_test c None None None (Some why) e more is = is
+without_test c None None None None None more is = is
+without_test c None None None None (Some why) more is = absurd cc
 
 good_tag : (c : Command) → has_good_tag any_tag c ≡ true
-good_tag (command.Init digest author name payload tag) = refl
-good_tag (command.Basic priority parent author name payload tag) = refl
-good_tag (command.Finalize parent author name payload tag) = refl
-good_tag (command.Merge left right) = refl
+good_tag (command.Init cut digest author name payload tag) = refl
+good_tag (command.Basic cut priority parent author name payload tag) = refl
+good_tag (command.Finalize cut parent author name payload tag) = refl
+good_tag (command.Merge cut left right) = refl
 
 -- that an added command keeps a list sound is a law of admission
 abbrev pub KeepsSound : Type 0
@@ -53,8 +54,8 @@ module _ (sound : KeepsSound) (policy : List PlacedItem) (digest : List ℕ) (go
   any_admission cs c is rows beside at first =
       let early : List (Option Reason) = option_map (λ cause. reason.Policy cause) (ill_formed policy c) ∷ late_reasons policy cs c rows beside in
       let tag : bad_envelope any_tag c ≡ None = ap (λ b. if b then None else Some reason.BadEnvelope) (good_tag c) in
-      subst (λ o. Added ≡ by_held c (held_with cs (command_id c)) (by_reason (first_of (other_init digest graph_id c ∷ missing_parent cs c ∷ o ∷ early)))) (sym tag)
-      (without_test c (held_with cs (command_id c)) (other_init digest graph_id c) (missing_parent cs c) (bad_envelope good c) early (is rows beside at first))
+      subst (λ o. Added ≡ by_held c (held_with cs (command_id c)) (by_reason (first_of (other_init digest graph_id c ∷ missing_parent cs c ∷ wrong_cut cs c ∷ o ∷ early)))) (sym tag)
+      (without_test c (held_with cs (command_id c)) (other_init digest graph_id c) (missing_parent cs c) (wrong_cut cs c) (bad_envelope good c) early (is rows beside at first))
 
   module _ (cs : List Command) where
     sound_on : (list : List Command) (before behind : Tally) → ((c : Command) → Contains list c → IsFormed c) → AreSound any graph_id (cs ++ before.added) → IsTakenOn own graph_id cs before list behind →

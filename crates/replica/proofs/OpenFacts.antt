@@ -183,10 +183,10 @@ sound_for_any criteria graph_id cs sound = record {
 }
   where
     any_good : (c : Command) → HasGoodTag any_tag c
-    any_good (command.Init digest author name payload tag) = refl
-    any_good (command.Basic priority parent author name payload tag) = refl
-    any_good (command.Finalize parent author name payload tag) = refl
-    any_good (command.Merge left right) = tt
+    any_good (command.Init cut digest author name payload tag) = refl
+    any_good (command.Basic cut priority parent author name payload tag) = refl
+    any_good (command.Finalize cut parent author name payload tag) = refl
+    any_good (command.Merge cut left right) = tt
 
 -- ---- the state that commits lead to
 

@@ -41,6 +41,10 @@ fn copy_of(alloc: Global, reason: &Reason) -> Result<Reason, NoMemory>
         }),
         Reason::OtherInit => Ok(Reason::OtherInit),
         Reason::MissingParent(id) => Ok(Reason::MissingParent(*id)),
+        Reason::WrongCut { stated, real } => Ok(Reason::WrongCut {
+            stated: *stated,
+            real: *real,
+        }),
         Reason::BadEnvelope => Ok(Reason::BadEnvelope),
         Reason::Policy(why) => Ok(Reason::Policy(*why)),
         Reason::ParallelFinalize(id) => Ok(Reason::ParallelFinalize(*id)),

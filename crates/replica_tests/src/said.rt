@@ -58,6 +58,7 @@ fn reason(reason: &Reason) -> &'static str {
         Reason::Collision { .. } => "collision",
         Reason::OtherInit => "other init",
         Reason::MissingParent(_) => "missing parent",
+        Reason::WrongCut { .. } => "wrong cut",
         Reason::BadEnvelope => "bad envelope",
         Reason::Policy(cause) => why(*cause),
         Reason::ParallelFinalize(_) => "parallel finalize",

@@ -24,6 +24,7 @@ abbrev pub command_reason : CommandRefusal → Bytes
 command_reason command.Collision = codes "collision"
 command_reason command.OtherInit = codes "other init"
 command_reason (command.MissingParent id) = concat (codes "missing parent " ∷ encode_lower id ∷ [])
+command_reason command.WrongCut = codes "wrong cut"
 command_reason command.BadEnvelope = codes "bad envelope"
 command_reason command.UnknownCommand = codes "unknown command"
 command_reason command.WrongKind = codes "wrong kind"

@@ -8,6 +8,7 @@ pub enum CommandRefusal {
     OtherInit,
     /// The parent that isn't held.
     MissingParent(Id),
+    WrongCut,
     BadEnvelope,
     UnknownCommand,
     WrongKind,

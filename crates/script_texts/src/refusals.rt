@@ -43,6 +43,7 @@ pub fn command_reason(alloc: Global, why: &CommandRefusal) -> Result<Text, NoMem
         CommandRefusal::Fault(word) => phrase(alloc, &["fault ", fault_word(*word)]),
         CommandRefusal::Collision => phrase(alloc, &["collision"]),
         CommandRefusal::OtherInit => phrase(alloc, &["other init"]),
+        CommandRefusal::WrongCut => phrase(alloc, &["wrong cut"]),
         CommandRefusal::BadEnvelope => phrase(alloc, &["bad envelope"]),
         CommandRefusal::UnknownCommand => phrase(alloc, &["unknown command"]),
         CommandRefusal::WrongKind => phrase(alloc, &["wrong kind"]),

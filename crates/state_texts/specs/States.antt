@@ -48,10 +48,10 @@ effects_text items name entries = count_text (codes "effects") (name ∷ []) (le
 
 -- What is printed of a command behind its id.
 abbrev pub shown_command : Command → ShownCommand
-shown_command (command.Init digest author name payload tag) = shown.Init name
-shown_command (command.Basic priority parent author name payload tag) = shown.Basic name priority parent
-shown_command (command.Finalize parent author name payload tag) = shown.Finalize name parent
-shown_command (command.Merge left right) = shown.Merge left right
+shown_command (command.Init cut digest author name payload tag) = shown.Init name
+shown_command (command.Basic cut priority parent author name payload tag) = shown.Basic name priority parent
+shown_command (command.Finalize cut parent author name payload tag) = shown.Finalize name parent
+shown_command (command.Merge cut left right) = shown.Merge left right
 
 abbrev pub command_line : Command → Bytes
 command_line c = command_text (command_id c) (shown_command c)

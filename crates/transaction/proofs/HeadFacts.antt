@@ -133,9 +133,9 @@ module _ (cs : List Command) (c : Command) where
 
 -- a merge of two heads
 pub heads_merged : (cs : List Command) (left right : List ℕ) (others : List (List ℕ)) → HasHeads cs (left ∷ right ∷ others)
-    → HasHeads (cs ++ command.Merge left right ∷ []) (with_id others (command_id (command.Merge left right)))
+    → HasHeads (cs ++ command.Merge None left right ∷ []) (with_id others (command_id (command.Merge None left right)))
 heads_merged cs left right others has =
-    heads_behind cs (command.Merge left right) (left ∷ right ∷ others) others has
+    heads_behind cs (command.Merge None left right) (left ∷ right ∷ others) others has
     (λ id inside. elim (head_cases left (right ∷ others) id inside) [
       | inl same ↦ inl (subst (λ z. Contains (left ∷ right ∷ []) z) same (at_head left (right ∷ [])))
       | inr later ↦

@@ -106,18 +106,18 @@ module _ (basis : Basis) (graph_id : Option (List ℕ)) (unnamed : basis.held �
   abbrev Merged : List Row → Draft → Type 0
   Merged rows draft = Joins graph_id basis.held unnamed draft × Ran draft rows × (All IsFormed draft.commands → AreLawfulOf draft)
 
-  merge_goes : (rows : List Row) (draft : Draft) (left right : List ℕ) (others : List (List ℕ)) → draft.heads ≡ left ∷ right ∷ others → is_known basis.held draft.commands (command_id (command.Merge left right)) ≡ false
-      → Merged rows draft → Merged rows (with_merge draft others (command.Merge left right))
+  merge_goes : (rows : List Row) (draft : Draft) (left right : List ℕ) (others : List (List ℕ)) → draft.heads ≡ left ∷ right ∷ others → is_known basis.held draft.commands (command_id (command.Merge None left right)) ≡ false
+      → Merged rows draft → Merged rows (with_merge draft others (command.Merge None left right))
   merge_goes rows draft left right others two fresh merged =
       let next = merge_joins graph_id basis.held unnamed draft left right others two fresh merged.0 in
-      let same = merge_more draft.commands (command.Merge left right) refl in (
+      let same = merge_more draft.commands (command.Merge None left right) refl in (
         next,
         record {
           same_rows = ap (λ l. (run_on basis.policy start l).rows) same ∙ merged.1.same_rows;
           same_entries = ap (λ l. (run_on basis.policy start l).entries) same ∙ merged.1.same_entries;
         },
-        λ formed run. lawful_more criteria basis.held draft.commands (command.Merge left right) (next.stands formed).standing.closed
-            (merged.2 (all_left draft.commands (command.Merge left right ∷ []) formed) run) (λ plain. absurd cc),
+        λ formed run. lawful_more criteria basis.held draft.commands (command.Merge None left right) (next.stands formed).standing.closed
+            (merged.2 (all_left draft.commands (command.Merge None left right ∷ []) formed) run) (λ plain. absurd cc),
       )
 
   module _ (old : Draft) (rows : List Row) (b : Brought) (tag : Option (List ℕ)) (draft : Draft) (after : List Row) (t : IsTaken basis old rows b tag draft after) (is : IsCommandOf basis.policy b.command b.fields)

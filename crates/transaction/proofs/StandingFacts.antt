@@ -9,7 +9,7 @@ use Rattle.braid_run.specs.Published.{ArePublished, IsBehindAll}
 use Rattle.braid_run.specs.States.{HasOneInit, IsStanding}
 use Rattle.braid_run.proofs.StandingFacts.{one_more}
 use Rattle.command.specs.Closed.{IsHeld, has_id, max_commands}
-use Rattle.command.specs.Kinds.{is_finalize, is_init, is_merge, parents_of}
+use Rattle.command.specs.Kinds.{carried, is_finalize, is_init, is_merge, parents_of}
 use Rattle.command.specs.Wire.{IsFormed, command_id}
 use Rattle.command.specs.declared.command.Command.{Command}
 use Rattle.command.specs.declared.command.Command.TheVariants as command
@@ -89,10 +89,10 @@ within : (n : ℕ) → nat_lt max_commands n ≡ false → n ≤ max_commands
 within n is = ltb-false max_commands n is
 
 finalize_is_no_merge : (c : Command) → is_finalize c ≡ true → is_merge c ≡ true → ⊥
-finalize_is_no_merge (command.Init digest author name payload tag) is merge = absurd cc
-finalize_is_no_merge (command.Basic priority parent author name payload tag) is merge = absurd cc
-finalize_is_no_merge (command.Finalize parent author name payload tag) is merge = absurd cc
-finalize_is_no_merge (command.Merge left right) is merge = absurd cc
+finalize_is_no_merge (command.Init cut digest author name payload tag) is merge = absurd cc
+finalize_is_no_merge (command.Basic cut priority parent author name payload tag) is merge = absurd cc
+finalize_is_no_merge (command.Finalize cut parent author name payload tag) is merge = absurd cc
+finalize_is_no_merge (command.Merge cut left right) is merge = absurd cc
 
 published_more : (held cs : List Command) (c : Command) → ArePublished held cs → (is_merge c ≡ true) ⊎ IsBehindAll (held ++ cs) c → ArePublished held (cs ++ c ∷ [])
 published_more held [] c are last = (subst (λ l. (is_merge c ≡ true) ⊎ IsBehindAll l c) (append-nil held) last, tt)
@@ -116,6 +116,7 @@ pub record Follows (heads : List (List ℕ)) (c : Command) : Type 0 where
   pub parents : (id : List ℕ) → Contains (parents_of c) id → Contains heads id
   pub init : is_init c ≡ true → heads ≡ []
   pub last : (is_merge c ≡ true) ⊎ ((id : List ℕ) → Contains heads id → Contains (parents_of c) id)
+  pub uncut : carried c ≡ None
 
 module _ (graph_id : Option (List ℕ)) (held : List Command) (unnamed : held ≡ [] → graph_id ≡ None) where
   first_named : (cs : List Command) (c : Command) → held ++ cs ≡ [] → graph_named graph_id (cs ++ c ∷ []) ≡ Some (command_id c)
@@ -145,6 +146,7 @@ module _ (graph_id : Option (List ℕ)) (held : List Command) (unnamed : held �
             formed = formed;
             fresh = λ h. not_both (is_known held draft.commands (command_id c)) fresh (known_by held draft.commands (command_id c) h);
             held = λ parent link. stands.heads.held parent (follows.parents parent link);
+            cut = λ stated is. let both : None ≡ Some stated = sym follows.uncut ∙ is in absurd cc;
           };
           few = let sizes = length-append held draft.commands in omega (arith, sizes, few);
           init = λ init. (empty_before init, first_named draft.commands c (empty_before init));
@@ -160,11 +162,12 @@ module _ (graph_id : Option (List ℕ)) (held : List Command) (unnamed : held �
   pub first_room : (old : Draft) → is_full held old ≡ false → length held + length old.commands + added_commands old.heads ≤ max_commands
   first_room old room = within (length held + length old.commands + added_commands old.heads) room
 
-  merge_follows : (heads : List (List ℕ)) (left right : List ℕ) (others : List (List ℕ)) → heads ≡ left ∷ right ∷ others → Follows heads (command.Merge left right)
+  merge_follows : (heads : List (List ℕ)) (left right : List ℕ) (others : List (List ℕ)) → heads ≡ left ∷ right ∷ others → Follows heads (command.Merge None left right)
   merge_follows heads left right others two = record {
     parents = λ id link. subst (λ l. Contains l id) (sym two) (shorter id link);
     init = λ init. absurd cc;
     last = inl refl;
+    uncut = refl;
   }
     where
       shorter : (id : List ℕ) → Contains (left ∷ right ∷ []) id → Contains (left ∷ right ∷ others) id
@@ -175,22 +178,22 @@ module _ (graph_id : Option (List ℕ)) (held : List Command) (unnamed : held �
                 behind_head left (right ∷ others) id (subst (λ z. Contains (right ∷ others) z) (one_element right id later) (at_head right others))
           ]
 
-  pub merge_joins : (draft : Draft) (left right : List ℕ) (others : List (List ℕ)) → draft.heads ≡ left ∷ right ∷ others → is_known held draft.commands (command_id (command.Merge left right)) ≡ false → Joins draft
-      → Joins (with_merge draft others (command.Merge left right))
+  pub merge_joins : (draft : Draft) (left right : List ℕ) (others : List (List ℕ)) → draft.heads ≡ left ∷ right ∷ others → is_known held draft.commands (command_id (command.Merge None left right)) ≡ false → Joins draft
+      → Joins (with_merge draft others (command.Merge None left right))
   merge_joins draft left right others two fresh joins = record {
     stands = λ formed.
-        let stands = joins.stands (all_left draft.commands (command.Merge left right ∷ []) formed) in
+        let stands = joins.stands (all_left draft.commands (command.Merge None left right ∷ []) formed) in
         let follows = merge_follows draft.heads left right others two in
         record {
-          standing = standing_by draft (command.Merge left right) stands follows (last_formed draft.commands (command.Merge left right) formed) fresh (omega (arith, adds, joins.room));
+          standing = standing_by draft (command.Merge None left right) stands follows (last_formed draft.commands (command.Merge None left right) formed) fresh (omega (arith, adds, joins.room));
           heads =
-              subst (λ l. HasHeads l (with_id others (command_id (command.Merge left right)))) (append_assoc held draft.commands (command.Merge left right ∷ []))
+              subst (λ l. HasHeads l (with_id others (command_id (command.Merge None left right)))) (append_assoc held draft.commands (command.Merge None left right ∷ []))
               (heads_merged (held ++ draft.commands) left right others (subst (HasHeads (held ++ draft.commands)) two stands.heads));
-          published = published_by draft (command.Merge left right) stands follows;
+          published = published_by draft (command.Merge None left right) stands follows;
         };
     room =
-        let sizes = length-append draft.commands (command.Merge left right ∷ []) in
-        let most = added_most (with_id others (command_id (command.Merge left right))) (length others) (longer_by_one others (command_id (command.Merge left right))) in
+        let sizes = length-append draft.commands (command.Merge None left right ∷ []) in
+        let most = added_most (with_id others (command_id (command.Merge None left right))) (length others) (longer_by_one others (command_id (command.Merge None left right))) in
         omega (arith, adds, sizes, most, joins.room);
   }
     where
@@ -205,17 +208,17 @@ module _ (held : List Command) (n : ℕ) (draft joined : Draft) (more : (next : 
   same_end few r is goes = let same : draft ≡ joined = cc in subst (λ d. length d.heads ≤ 1) same few
 
   known_end : (left right : List ℕ) (others : List (List ℕ)) → draft.heads ≡ left ∷ right ∷ others → (k : Bool)
-      → (if k then Err (command_id (command.Merge left right)) else merges held n (with_merge draft others (command.Merge left right))) ≡ Ok joined → length joined.heads ≤ 1
+      → (if k then Err (command_id (command.Merge None left right)) else merges held n (with_merge draft others (command.Merge None left right))) ≡ Ok joined → length joined.heads ≤ 1
   known_end left right others two true goes = absurd cc
   known_end left right others two false goes =
       let sizes : length draft.heads ≡ suc (suc (length others)) = ap length two in
-      let longer = longer_by_one others (command_id (command.Merge left right)) in
-      more (with_merge draft others (command.Merge left right)) (omega (arith, sizes, longer, most)) goes
+      let longer = longer_by_one others (command_id (command.Merge None left right)) in
+      more (with_merge draft others (command.Merge None left right)) (omega (arith, sizes, longer, most)) goes
 
   heads_end : (heads : List (List ℕ)) → draft.heads ≡ heads → merge_two held draft heads (merges held n) ≡ Ok joined → length joined.heads ≤ 1
   heads_end [] are goes = let size : length draft.heads ≡ 0 = ap length are in same_end (omega (arith, size)) (Ok draft) refl goes
   heads_end (id ∷ []) are goes = let size : length draft.heads ≡ 1 = ap length are in same_end (omega (arith, size)) (Ok draft) refl goes
-  heads_end (left ∷ right ∷ others) are goes = known_end left right others are (is_known held draft.commands (command_id (command.Merge left right))) goes
+  heads_end (left ∷ right ∷ others) are goes = known_end left right others are (is_known held draft.commands (command_id (command.Merge None left right))) goes
 
 -- merging ends with one head at most
 merges_end : (held : List Command) (n : ℕ) (draft joined : Draft) → length draft.heads ≤ suc n → merges held n draft ≡ Ok joined → length joined.heads ≤ 1
@@ -224,12 +227,12 @@ merges_end held (suc n) draft joined most is = heads_end held n draft joined (λ
 
 new_follows : (digest author : List ℕ) (heads : List (List ℕ)) (kind : CommandKind) (name : Name) (payload tag : List ℕ) → is_misplaced kind (has_head heads) ≡ false → length heads ≤ 1
     → Follows heads (new_command digest author (parent_of heads) kind name payload tag)
-new_follows digest author [] Init name payload tag placed few = record { parents = λ id link. link; init = λ init. refl; last = inr (λ id link. link) }
+new_follows digest author [] Init name payload tag placed few = record { parents = λ id link. link; init = λ init. refl; last = inr (λ id link. link); uncut = refl }
 new_follows digest author [] (Basic priority) name payload tag placed few = absurd cc
 new_follows digest author [] Finalize name payload tag placed few = absurd cc
 new_follows digest author (x ∷ []) Init name payload tag placed few = absurd cc
-new_follows digest author (x ∷ []) (Basic priority) name payload tag placed few = record { parents = λ id link. link; init = λ init. absurd cc; last = inr (λ id link. link) }
-new_follows digest author (x ∷ []) Finalize name payload tag placed few = record { parents = λ id link. link; init = λ init. absurd cc; last = inr (λ id link. link) }
+new_follows digest author (x ∷ []) (Basic priority) name payload tag placed few = record { parents = λ id link. link; init = λ init. absurd cc; last = inr (λ id link. link); uncut = refl }
+new_follows digest author (x ∷ []) Finalize name payload tag placed few = record { parents = λ id link. link; init = λ init. absurd cc; last = inr (λ id link. link); uncut = refl }
 new_follows digest author (x ∷ y ∷ more) kind name payload tag placed few = absurd (omega (arith, few))
 
 new_is_plain : (digest author parent : List ℕ) (kind : CommandKind) (name : Name) (payload tag : List ℕ) → is_merge (new_command digest author parent kind name payload tag) ≡ false

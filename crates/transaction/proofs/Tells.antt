@@ -103,16 +103,16 @@ longer_by_one (x ∷ ids) id = by (slice_cmp nat_cmp id x) (longer_by_one ids id
     by Greater rest = omega (arith, rest)
 
 module _ (held : List Command) (P : Draft → Type 0)
-    (step : (draft : Draft) (left right : List ℕ) (others : List (List ℕ)) → draft.heads ≡ left ∷ right ∷ others → is_known held draft.commands (command_id (command.Merge left right)) ≡ false → P draft
-    → P (with_merge draft others (command.Merge left right))) where
+    (step : (draft : Draft) (left right : List ℕ) (others : List (List ℕ)) → draft.heads ≡ left ∷ right ∷ others → is_known held draft.commands (command_id (command.Merge None left right)) ≡ false → P draft
+    → P (with_merge draft others (command.Merge None left right))) where
   same_draft : (a b : Draft) (r : Result Draft (List ℕ)) → r ≡ Ok a → r ≡ Ok b → P a → P b
   same_draft a b r one other holds = let inner : a ≡ b = cc in subst P inner holds
 
   module _ (n : ℕ) (draft joined : Draft) (more : (next : Draft) → merges held n next ≡ Ok joined → P next → P joined) (holds : P draft) where
-    known_then : (left right : List ℕ) (others : List (List ℕ)) → draft.heads ≡ left ∷ right ∷ others → (k : Bool) → is_known held draft.commands (command_id (command.Merge left right)) ≡ k
-        → (if k then Err (command_id (command.Merge left right)) else merges held n (with_merge draft others (command.Merge left right))) ≡ Ok joined → P joined
+    known_then : (left right : List ℕ) (others : List (List ℕ)) → draft.heads ≡ left ∷ right ∷ others → (k : Bool) → is_known held draft.commands (command_id (command.Merge None left right)) ≡ k
+        → (if k then Err (command_id (command.Merge None left right)) else merges held n (with_merge draft others (command.Merge None left right))) ≡ Ok joined → P joined
     known_then left right others two true known goes = absurd cc
-    known_then left right others two false known goes = more (with_merge draft others (command.Merge left right)) goes (step draft left right others two known holds)
+    known_then left right others two false known goes = more (with_merge draft others (command.Merge None left right)) goes (step draft left right others two known holds)
 
     heads_then : (heads : List (List ℕ)) → draft.heads ≡ heads → merge_two held draft heads (merges held n) ≡ Ok joined → P joined
     heads_then [] two goes = same_draft draft joined (Ok draft) refl goes holds
@@ -137,7 +137,7 @@ has_one_more (x ∷ ids) id = by (slice_cmp nat_cmp id x)
 pub still_headed : (held : List Command) (n : ℕ) (old joined : Draft) → merges held n old ≡ Ok joined → has_head joined.heads ≡ has_head old.heads
 still_headed held n old joined is =
     merges_keep held (λ d. has_head d.heads ≡ has_head old.heads)
-    (λ draft left right others two known same. has_one_more others (command_id (command.Merge left right)) ∙ sym (ap has_head two) ∙ same) n old joined is refl
+    (λ draft left right others two known same. has_one_more others (command_id (command.Merge None left right)) ∙ sym (ap has_head two) ∙ same) n old joined is refl
 
 pub placed_still : (held : List Command) (old joined : Draft) (declared : Declared) → opened held old declared ≡ Ok joined → is_misplaced declared.kind (has_head joined.heads) ≡ false
 placed_still held old joined declared opens =

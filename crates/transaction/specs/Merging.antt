@@ -21,7 +21,7 @@ merged held draft others merge more =
 
 -- The two of smallest ids are merged, where there are two.
 abbrev pub merge_two : List Command → Draft → List (List ℕ) → (Draft → Result Draft (List ℕ)) → Result Draft (List ℕ)
-merge_two held draft (left ∷ right ∷ others) more = merged held draft others (command.Merge left right) more
+merge_two held draft (left ∷ right ∷ others) more = merged held draft others (command.Merge None left right) more
 merge_two held draft other more = Ok draft
 
 -- So it goes on until one head is left, for so many merges at most. The first merge whose id is known ends it, with that id.

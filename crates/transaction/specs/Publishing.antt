@@ -54,9 +54,9 @@ parent_of (id ∷ ids) = id
 
 -- The command of this digest, author, parent, kind, name and payload, with this tag.
 abbrev pub new_command : List ℕ → List ℕ → List ℕ → CommandKind → Name → List ℕ → List ℕ → Command
-new_command digest author parent Init name payload tag = command.Init digest author name payload tag
-new_command digest author parent (Basic priority) name payload tag = command.Basic priority parent author name payload tag
-new_command digest author parent Finalize name payload tag = command.Finalize parent author name payload tag
+new_command digest author parent Init name payload tag = command.Init None digest author name payload tag
+new_command digest author parent (Basic priority) name payload tag = command.Basic None priority parent author name payload tag
+new_command digest author parent Finalize name payload tag = command.Finalize None parent author name payload tag
 
 -- What was brought as a command behind the heads.
 abbrev pub command_of : Basis → List (List ℕ) → Brought → List ℕ → Command

@@ -39,7 +39,11 @@ fn merge_two<G: Graph>(alloc: Global, graph: &G, draft: &mut Drafted) -> Result<
     let Some((left, right)) = draft.two_smallest() else {
         return Ok(Turn::Whole);
     };
-    let merge = Command::Merge { left, right };
+    let merge = Command::Merge {
+        cut: None,
+        left,
+        right,
+    };
     let id = id_of(&merge);
     if is_known(graph, draft, &id) {
         return Ok(Turn::Known(id));

@@ -18,13 +18,14 @@ pub fn sealed_init<E: Envelope>(
     payload: Bytes,
 ) -> Result<Option<Command>, NoMemory>
     requires { AreContent name payload }
-    ensures sealed { IfOk result (λ made. IsSealed E.good E.tag_of author.now (λ tag. command.Init digest.now author.now name payload tag) made (E.faults env.old) (E.faults env.new)) }
+    ensures sealed { IfOk result (λ made. IsSealed E.good E.tag_of author.now (λ tag. command.Init None digest.now author.now name payload tag) made (E.faults env.old) (E.faults env.new)) }
     ensures formed { IfOk result (λ made. IfSome made IsInForm) }
     ensures later { E.faults env.old ≤ E.faults env.new }
 {
-    let sealed = init_body(alloc, digest, author, &name, &payload)?;
+    let sealed = init_body(alloc, None, digest, author, &name, &payload)?;
     match env.seal(author, sealed.as_slice()) {
         Ok(tag) => Ok(Some(Command::Init {
+            cut: None,
             digest: *digest,
             author: *author,
             name,
@@ -46,13 +47,14 @@ pub fn sealed_basic<E: Envelope>(
     payload: Bytes,
 ) -> Result<Option<Command>, NoMemory>
     requires { AreContent name payload }
-    ensures sealed { IfOk result (λ made. IsSealed E.good E.tag_of author.now (λ tag. command.Basic priority parent.now author.now name payload tag) made (E.faults env.old) (E.faults env.new)) }
+    ensures sealed { IfOk result (λ made. IsSealed E.good E.tag_of author.now (λ tag. command.Basic None priority parent.now author.now name payload tag) made (E.faults env.old) (E.faults env.new)) }
     ensures formed { IfOk result (λ made. IfSome made IsInForm) }
     ensures later { E.faults env.old ≤ E.faults env.new }
 {
-    let sealed = basic_body(alloc, priority, parent, author, &name, &payload)?;
+    let sealed = basic_body(alloc, None, priority, parent, author, &name, &payload)?;
     match env.seal(author, sealed.as_slice()) {
         Ok(tag) => Ok(Some(Command::Basic {
+            cut: None,
             priority,
             parent: *parent,
             author: *author,
@@ -74,13 +76,14 @@ pub fn sealed_finalize<E: Envelope>(
     payload: Bytes,
 ) -> Result<Option<Command>, NoMemory>
     requires { AreContent name payload }
-    ensures sealed { IfOk result (λ made. IsSealed E.good E.tag_of author.now (λ tag. command.Finalize parent.now author.now name payload tag) made (E.faults env.old) (E.faults env.new)) }
+    ensures sealed { IfOk result (λ made. IsSealed E.good E.tag_of author.now (λ tag. command.Finalize None parent.now author.now name payload tag) made (E.faults env.old) (E.faults env.new)) }
     ensures formed { IfOk result (λ made. IfSome made IsInForm) }
     ensures later { E.faults env.old ≤ E.faults env.new }
 {
-    let sealed = finalize_body(alloc, parent, author, &name, &payload)?;
+    let sealed = finalize_body(alloc, None, parent, author, &name, &payload)?;
     match env.seal(author, sealed.as_slice()) {
         Ok(tag) => Ok(Some(Command::Finalize {
+            cut: None,
             parent: *parent,
             author: *author,
             name,

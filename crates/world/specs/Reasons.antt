@@ -41,6 +41,7 @@ abbrev pub command_refusal : Reason → CommandRefusal
 command_refusal (reason.Collision id held) = command.Collision
 command_refusal reason.OtherInit = command.OtherInit
 command_refusal (reason.MissingParent id) = command.MissingParent id
+command_refusal (reason.WrongCut stated real) = command.WrongCut
 command_refusal reason.BadEnvelope = command.BadEnvelope
 command_refusal (reason.Policy cause) = policy_refusal cause
 command_refusal (reason.ParallelFinalize id) = command.ParallelFinalize id

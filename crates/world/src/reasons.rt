@@ -48,6 +48,7 @@ pub fn command_refusal(reason: &Reason) -> CommandRefusal
         Reason::Collision { .. } => CommandRefusal::Collision,
         Reason::OtherInit => CommandRefusal::OtherInit,
         Reason::MissingParent(id) => CommandRefusal::MissingParent(*id),
+        Reason::WrongCut { .. } => CommandRefusal::WrongCut,
         Reason::BadEnvelope => CommandRefusal::BadEnvelope,
         Reason::Policy(why) => policy_refusal(*why),
         Reason::ParallelFinalize(id) => CommandRefusal::ParallelFinalize(*id),
