@@ -1,5 +1,5 @@
 -- Counts of faults: what it is that one rose, and which answers need that it did.
-use Rattle.std.specs.Prelude.{◌≡◌, ℕ, ◌+◌, ◌-◌, ◌^◌, ◌≤◌, min, Result, Ok, Err, OnErr}
+use Rattle.std.specs.Prelude.{◌≡◌, ℕ, ◌+◌, ◌-◌, ◌^◌, ◌≤◌, min, Result, Ok, Err, OnErr, OnOk}
 use Rattle.outside.specs.declared.faults.Failed.{Failed}
 use Rattle.outside.specs.declared.faults.ReadFail.{ReadFail}
 use Rattle.outside.specs.declared.faults.ReadFail.TheVariants as fail
@@ -12,16 +12,18 @@ next_count n = min (n + 1) (2 ^ 64 - 1)
 abbrev pub Rose : ℕ → ℕ → Type 0
 Rose before now = next_count before ≤ now
 
--- a call's count of faults before and after: it doesn't fall, and where the call failed it rose
+-- a call's count of faults before and after: it doesn't fall; where the call failed it rose, and else it stays
 pub record HasCause {T : Type 0} (before now : ℕ) (result : Result T Failed) : Type 0 where
   pub later : before ≤ now
   pub failed : OnErr result (Rose before now)
+  pub same : OnOk result (now ≡ before)
 
--- the same of a read, which may also lack memory: then the count stays
+-- the same of a read, which may also lack memory: then the count stays too
 pub record ReadHasCause {T : Type 0} (before now : ℕ) (result : Result T ReadFail) : Type 0 where
   pub later : before ≤ now
   pub failed : result ≡ Err fail.Failed → Rose before now
   pub no_memory : result ≡ Err fail.NoMemory → now ≡ before
+  pub same : OnOk result (now ≡ before)
 
 -- the count after a call, of an object that counts its failed calls one by one
 abbrev pub faults_after : {T : Type 0} → Result T Failed → ℕ → ℕ

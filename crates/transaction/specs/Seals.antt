@@ -2,6 +2,7 @@
 use Rattle.std.specs.Prelude.{◌≡◌, ℕ, IsTrue, List, [], Option, Some, None, IfSome, Result, Ok, Err}
 use Rattle.command.specs.Wire.{body}
 use Rattle.fact_store.specs.declared.row.Row.{Row}
+use Rattle.outside.specs.Causes.{Rose}
 use Rattle.policy_meaning.specs.Actions.{Brought}
 use Rattle.policy_meaning.specs.Desks.{Posting, brought}
 use Rattle.policy_meaning.specs.Typed.{IsCommandOf}
@@ -10,6 +11,7 @@ use Rattle.policy_meaning.specs.declared.ends.Posted.TheVariants as posted
 use Rattle.transaction.specs.Drafts.{Draft, Basis}
 use Rattle.transaction.specs.Publishing.{Publication, IsTooLong, Refuses, Takes, command_of, declared_at, opened, published}
 use Rattle.transaction.specs.declared.fault.ActFault.{ActFault}
+use Rattle.transaction.specs.declared.fault.ActFault.TheVariants as fault
 
 -- A tag is good for the author and the body, and the told one where one is told. There may be none.
 abbrev pub IsSeal : Basis → List ℕ → Option (List ℕ) → Type 0
@@ -27,6 +29,12 @@ abbrev pub Leaves : Publication → Draft → List Row → Posted → List Row �
 Leaves (Takes draft rows) old before answer after ticks new = (answer ≡ posted.Taken) × (after ≡ rows) × (ticks ≡ 1) × (new ≡ draft)
 Leaves IsTooLong old before answer after ticks new = (answer ≡ posted.TooLong) × (after ≡ before) × (ticks ≡ 0) × (new ≡ old)
 Leaves (Refuses why run) old before answer after ticks new = (answer ≡ posted.Refused) × (after ≡ before) × (ticks ≡ run) × (new.refusal ≡ Some why)
+
+-- What an action's seals make of the envelope's count of faults: it stays where the action is prepared, and a failed seal is its rise.
+abbrev pub SealCount : {T : Type 0} → Result T ActFault → ℕ → ℕ → Type 0
+SealCount (Ok made) before now = now ≡ before
+SealCount (Err fault.SealFault) before now = Rose before now
+SealCount (Err other) before now = Unit {0}
 
 -- One publish of a command that the policy declares, from one draft and its facts to another, for some tag or none.
 pub record IsPublish (basis : Basis) (old : Draft) (rows : List Row) (posting : Posting) (new : Draft) : Type 0 where

@@ -1,14 +1,12 @@
-ghost use Rattle.std.specs.Prelude.{◌≡◌, ◌≤◌, IfOk, IfErr, OnOk, filter, length};
+ghost use Rattle.std.specs.Prelude.{◌≡◌, ◌≤◌, IfOk, OnOk, filter, length};
 ghost use Rattle.std.specs.List.{All};
 ghost use Rattle.command.specs.Kinds.{is_merge};
 ghost use Rattle.command.specs.Wire.{IsFormed};
 ghost use Rattle.policy_meaning.specs.Desks.{ActionRun};
 ghost use Rattle.policy_meaning.specs.Typed.{AreTyped, IsActionOf};
-ghost use Rattle.outside.specs.Causes.{Rose};
 ghost use Rattle.transaction.specs.Acting.{Answers, RunsBody, acted};
 ghost use Rattle.transaction.specs.Drafts.{first_draft};
-ghost use Rattle.transaction.specs.Seals.{IsPublish};
-ghost use Rattle.transaction.specs.declared.fault.ActFault.TheVariants as fault;
+ghost use Rattle.transaction.specs.Seals.{IsPublish, SealCount};
 ghost use Rattle.transaction.specs.Drafts.{basis_of};
 ghost use Rattle.transaction.specs.working.Sealing.{HasSealCause};
 
@@ -140,7 +138,7 @@ pub fn act_on<R: Runner, G: Graph, F: FactBase, E: Envelope, L: Ledger>(
     ensures typed { IfOk result (λ p. AreTyped (R.rules runner.now) (F.rows p.facts)) }
     ensures formed { IfOk result (λ p. All IsFormed p.commands) }
     ensures later { E.faults env.old ≤ E.faults env.new }
-    ensures cause { IfErr result (λ why. why ≡ fault.SealFault → Rose (E.faults env.old) (E.faults env.new)) }
+    ensures cause { SealCount result (E.faults env.old) (E.faults env.new) }
 {
     let mut draft = first_draft(alloc, graph)?;
     let mut facts = facts.copy(alloc)?;

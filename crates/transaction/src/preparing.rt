@@ -1,13 +1,12 @@
-ghost use Rattle.std.specs.Prelude.{◌≡◌, ◌+◌, ◌≤◌, true, None, IfOk, IfErr, length};
+ghost use Rattle.std.specs.Prelude.{◌≡◌, ◌+◌, ◌≤◌, true, None, IfOk, length};
 ghost use Rattle.std.specs.List.{All};
 ghost use Rattle.command.specs.Wire.{IsFormed};
-ghost use Rattle.outside.specs.Causes.{Rose};
 ghost use Rattle.policy_meaning.specs.Typed.{AreTyped};
 ghost use Rattle.policy_rules.specs.WellTyped.{IsWellTyped};
 ghost use Rattle.transaction.specs.Acting.{Acts, Answers};
 ghost use Rattle.transaction.specs.Applying.{IsPublishedOn, IsReady};
-ghost use Rattle.transaction.specs.declared.fault.ActFault.TheVariants as fault;
 ghost use Rattle.transaction.specs.Drafts.{basis_of};
+ghost use Rattle.transaction.specs.Seals.{SealCount};
 
 use crate::ActFault;
 use crate::acting::{Prepared, act_on};
@@ -42,7 +41,7 @@ fn act<R: Runner, G: Graph, F: FactBase, E: Envelope, L: Ledger>(
     ensures formed { IfOk result (λ p. All IsFormed p.commands) }
     ensures well_typed { IfOk result (λ p. IsWellTyped (R.rules runner.now)) }
     ensures later { E.faults env.old ≤ E.faults env.new }
-    ensures cause { IfErr result (λ why. why ≡ fault.SealFault → Rose (E.faults env.old) (E.faults env.new)) }
+    ensures cause { SealCount result (E.faults env.old) (E.faults env.new) }
 {
     if !first && graph.len() == 0 {
         return Err(ActFault::NoGraph);
@@ -64,8 +63,8 @@ fn act<R: Runner, G: Graph, F: FactBase, E: Envelope, L: Ledger>(
 
 /// Runs an action over the present facts, and answers all that it publishes, or its first fault. Nothing of the state changes but its room, which then
 /// suffices to apply what was prepared. The heads are merged before the first command, the two of smallest ids first; the counter rises by the number
-/// of commands that are published and no merges. With `first` the action is the first of a graph, which has no id yet. `SealFault` comes only where
-/// the envelope's count rose.
+/// of commands that are published and no merges. With `first` the action is the first of a graph, which has no id yet. The
+/// envelope's count stays where the action is prepared, and `SealFault` comes only where it rose.
 pub fn prepare<R: Runner, G: Graph, F: FactBase, E: Envelope, L: Ledger>(
     alloc: Global,
     runner: &R,
@@ -89,7 +88,7 @@ pub fn prepare<R: Runner, G: Graph, F: FactBase, E: Envelope, L: Ledger>(
     ensures typed { IfOk result (λ p. AreTyped (R.rules runner.now) (F.rows p.facts)) }
     ensures ticks { IfOk result (λ p. steps.new ≡ steps.old + length p.entries.all) }
     ensures later { E.faults env.old ≤ E.faults env.new }
-    ensures cause { IfErr result (λ why. why ≡ fault.SealFault → Rose (E.faults env.old) (E.faults env.new)) }
+    ensures cause { SealCount result (E.faults env.old) (E.faults env.new) }
 {
     let prepared = act(
         alloc,

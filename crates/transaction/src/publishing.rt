@@ -1,4 +1,4 @@
-ghost use Rattle.std.specs.Prelude.{◌≡◌, ℕ, ◌+◌, ◌≤◌, false, true, IfOk, IfSome, OnOk, Ok, Some, length};
+ghost use Rattle.std.specs.Prelude.{◌≡◌, ℕ, ◌+◌, ◌≤◌, false, true, IfOk, IfSome, None, OnErr, OnOk, Ok, Some, length};
 ghost use Rattle.base_bytes.specs.Payload.{spelling};
 ghost use Rattle.base_bytes.specs.declared.value.Value.TheVariants as value;
 ghost use Rattle.command.specs.Closed.{has_id};
@@ -54,6 +54,7 @@ fn seal<E: Envelope>(
     ensures sealed { IfOk result (λ made. IsSealed E.good E.tag_of author.now (new_command digest.now author.now (parent_of draft.now.heads) (kind_seen kind) name.now payload) made (E.faults env.old) (E.faults env.new)) }
     ensures formed { IfOk result (λ made. IfSome made IsInForm) }
     ensures later { E.faults env.old ≤ E.faults env.new }
+    ensures same { OnErr result (E.faults env.new ≡ E.faults env.old) }
 {
     let name = text_of(alloc, name)?;
     match kind {
@@ -89,6 +90,7 @@ fn judge<R: Runner, F: FactBase, L: Ledger>(
     ensures typed { OnOk result (AreTyped (R.rules runner.now) (F.rows facts.new)) }
     ensures tick { steps.new ≡ steps.old + 1 }
     ensures cause { (before now : ℕ) → SealRose draft.old.refusal draft.new.refusal before now }
+    ensures kept { draft.new.refusal ≡ None → draft.old.refusal ≡ None }
 {
     match runner.run_command(alloc, call, facts, steps)? {
         Verdict::Pass(effects) => {
@@ -121,6 +123,7 @@ fn check<R: Runner, G: Graph, F: FactBase, L: Ledger>(
     ensures ends { IfOk result (λ posted. Ends (checked (R.rules runner.now) author.now (G.commands graph.now) draft.old (F.rows facts.old) (record { command = number; fields = fields }) command) draft.old (F.rows facts.old) posted (F.rows facts.new) steps.old steps.new draft.new) }
     ensures typed { OnOk result (AreTyped (R.rules runner.now) (F.rows facts.new)) }
     ensures cause { (before now : ℕ) → SealRose draft.old.refusal draft.new.refusal before now }
+    ensures kept { draft.new.refusal ≡ None → draft.old.refusal ≡ None }
 {
     let id = id_of(&command);
     if is_known(graph, draft, &id) {

@@ -1,4 +1,4 @@
-ghost use Rattle.std.specs.Prelude.{◌≡◌, ◌≤◌, IfOk, IfSome, length};
+ghost use Rattle.std.specs.Prelude.{◌≡◌, ◌≤◌, IfOk, IfSome, OnErr, length};
 ghost use Rattle.command.specs.Wire.{AreContent, IsInForm};
 ghost use Rattle.command.specs.declared.command.Command.TheVariants as command;
 ghost use Rattle.transaction.specs.working.Sealing.{IsSealed};
@@ -21,6 +21,7 @@ pub fn sealed_init<E: Envelope>(
     ensures sealed { IfOk result (λ made. IsSealed E.good E.tag_of author.now (λ tag. command.Init None digest.now author.now name payload tag) made (E.faults env.old) (E.faults env.new)) }
     ensures formed { IfOk result (λ made. IfSome made IsInForm) }
     ensures later { E.faults env.old ≤ E.faults env.new }
+    ensures same { OnErr result (E.faults env.new ≡ E.faults env.old) }
 {
     let sealed = init_body(alloc, None, digest, author, &name, &payload)?;
     match env.seal(author, sealed.as_slice()) {
@@ -50,6 +51,7 @@ pub fn sealed_basic<E: Envelope>(
     ensures sealed { IfOk result (λ made. IsSealed E.good E.tag_of author.now (λ tag. command.Basic None priority parent.now author.now name payload tag) made (E.faults env.old) (E.faults env.new)) }
     ensures formed { IfOk result (λ made. IfSome made IsInForm) }
     ensures later { E.faults env.old ≤ E.faults env.new }
+    ensures same { OnErr result (E.faults env.new ≡ E.faults env.old) }
 {
     let sealed = basic_body(alloc, None, priority, parent, author, &name, &payload)?;
     match env.seal(author, sealed.as_slice()) {
@@ -79,6 +81,7 @@ pub fn sealed_finalize<E: Envelope>(
     ensures sealed { IfOk result (λ made. IsSealed E.good E.tag_of author.now (λ tag. command.Finalize None parent.now author.now name payload tag) made (E.faults env.old) (E.faults env.new)) }
     ensures formed { IfOk result (λ made. IfSome made IsInForm) }
     ensures later { E.faults env.old ≤ E.faults env.new }
+    ensures same { OnErr result (E.faults env.new ≡ E.faults env.old) }
 {
     let sealed = finalize_body(alloc, None, parent, author, &name, &payload)?;
     match env.seal(author, sealed.as_slice()) {

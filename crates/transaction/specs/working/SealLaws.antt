@@ -1,5 +1,5 @@
 -- The laws that the desk owes of what it keeps: nothing rises by itself, and one rise after another is one. They stand here since the desk cites them.
-use Rattle.std.proofs.Common.{◌≡◌, ℕ, ◌≤◌, ◌⊎◌, inl, inr, Option, Some, refl, sym, subst, le_refl, le_trans, arith}
+use Rattle.std.proofs.Common.{◌≡◌, ℕ, ◌≤◌, ◌⊎◌, inl, inr, Option, Some, ◌∙◌, refl, sym, subst, le_refl, le_trans, arith}
 use Rattle.outside.specs.Causes.{Rose}
 use Rattle.transaction.specs.declared.fault.ActFault.{ActFault}
 use Rattle.transaction.specs.declared.fault.ActFault.TheVariants as fault
@@ -20,10 +20,14 @@ seal_stays old new before now is = subst (λ z. SealRose old z before now) (sym 
     by other = tt
 
 pub cause_itself : (old : Option ActFault) (count : ℕ) → HasSealCause old old count count
-cause_itself old count = record { later = le_refl count; failed = seal_stays old old count count refl }
+cause_itself old count = record { later = le_refl count; failed = seal_stays old old count count refl; same = λ none. (none, refl) }
 
 pub cause_on : (a b c : Option ActFault) (first second third : ℕ) → HasSealCause a b first second → HasSealCause b c second third → HasSealCause a c first third
-cause_on a b c first second third one two = record { later = le_trans one.later two.later; failed = by c two.failed }
+cause_on a b c first second third one two = record {
+  later = le_trans one.later two.later;
+  failed = by c two.failed;
+  same = λ none. let last = two.same none in let front = one.same last.0 in (front.0, last.1 ∙ front.1);
+}
   where
     from : (o : Option ActFault) → o ≡ Some fault.SealFault → SealRose a o first second → (a ≡ Some fault.SealFault) ⊎ Rose first third
     from o is rose =
