@@ -41,6 +41,7 @@ fn basic(alloc: Global, size: Size) -> Result<Command, NoMemory>
     ensures { IfOk result IsInForm }
 {
     Ok(Command::Basic {
+        cut: None,
         priority: 1,
         parent: Id::new([17; 32]),
         author: Id::new([34; 32]),

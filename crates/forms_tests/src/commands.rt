@@ -62,6 +62,7 @@ fn start(alloc: Global) -> Result<Command, NoMemory>
     ensures { IfOk result (λ command. IsInForm command) }
 {
     Ok(Command::Init {
+        cut: None,
         digest: Id::new(DIGEST),
         author: Id::new(AUTHOR),
         name: Text::from_slice(alloc, "Start")?,
@@ -76,6 +77,7 @@ fn put(alloc: Global) -> Result<Command, NoMemory>
     let mut payload = Bytes::new(alloc);
     encode_value(alloc, &Value::Int(1), &mut payload)?;
     Ok(Command::Basic {
+        cut: None,
         priority: 7,
         parent: Id::new(PARENT),
         author: Id::new(AUTHOR),
@@ -89,6 +91,7 @@ fn close(alloc: Global) -> Result<Command, NoMemory>
     ensures { IfOk result (λ command. IsInForm command) }
 {
     Ok(Command::Finalize {
+        cut: None,
         parent: Id::new(PARENT),
         author: Id::new(AUTHOR),
         name: Text::from_slice(alloc, "Close")?,
@@ -101,6 +104,7 @@ fn merge() -> Command
     ensures { IsInForm result }
 {
     Command::Merge {
+        cut: None,
         left: Id::new([1; 32]),
         right: Id::new([2; 32]),
     }
@@ -118,27 +122,30 @@ fn body_of_parts(alloc: Global, command: &Command) -> Result<Bytes, NoMemory>
 {
     match command {
         Command::Init {
+            cut,
             digest,
             author,
             name,
             payload,
             ..
-        } => init_body(alloc, digest, author, name, payload),
+        } => init_body(alloc, *cut, digest, author, name, payload),
         Command::Basic {
+            cut,
             priority,
             parent,
             author,
             name,
             payload,
             ..
-        } => basic_body(alloc, *priority, parent, author, name, payload),
+        } => basic_body(alloc, *cut, *priority, parent, author, name, payload),
         Command::Finalize {
+            cut,
             parent,
             author,
             name,
             payload,
             ..
-        } => finalize_body(alloc, parent, author, name, payload),
+        } => finalize_body(alloc, *cut, parent, author, name, payload),
         Command::Merge { .. } => body_of(alloc, command),
     }
 }

@@ -30,7 +30,7 @@ fn has_parents<G: Graph>(graph: &G, command: &Command) -> bool
         Command::Init { .. } => true,
         Command::Basic { parent, .. } => is_held(graph, parent),
         Command::Finalize { parent, .. } => is_held(graph, parent),
-        Command::Merge { left, right } => is_held(graph, left) && is_held(graph, right),
+        Command::Merge { left, right, .. } => is_held(graph, left) && is_held(graph, right),
     }
 }
 

@@ -47,6 +47,7 @@ fn init(alloc: Global, byte: u8) -> Result<Command, NoMemory>
     ensures { IfOk result IsInForm }
 {
     Ok(Command::Init {
+        cut: None,
         digest: Id::new(DIGEST),
         author: Id::new(AUTHOR),
         name: Text::from_slice(alloc, "c")?,
@@ -59,6 +60,7 @@ fn basic(alloc: Global, byte: u8, priority: u32, parent: Id) -> Result<Command, 
     ensures { IfOk result IsInForm }
 {
     Ok(Command::Basic {
+        cut: None,
         priority,
         parent,
         author: Id::new(AUTHOR),
@@ -72,6 +74,7 @@ fn finalize(alloc: Global, byte: u8, parent: Id) -> Result<Command, NoMemory>
     ensures { IfOk result IsInForm }
 {
     Ok(Command::Finalize {
+        cut: None,
         parent,
         author: Id::new(AUTHOR),
         name: Text::from_slice(alloc, "c")?,
@@ -85,6 +88,7 @@ fn merge(one: Id, other: Id) -> Option<Command>
 {
     match one.cmp(&other) {
         Ordering::Less => Some(Command::Merge {
+            cut: None,
             left: one,
             right: other,
         }),
@@ -97,7 +101,11 @@ fn merge_in_order(left: Id, right: Id) -> Option<Command>
     ensures { IfSome result IsInForm }
 {
     match left.cmp(&right) {
-        Ordering::Less => Some(Command::Merge { left, right }),
+        Ordering::Less => Some(Command::Merge {
+            cut: None,
+            left,
+            right,
+        }),
         _ => None,
     }
 }
@@ -136,11 +144,18 @@ fn are_parents_held<G: Graph>(graph: &G, command: &Command) -> bool
         Command::Init { .. } => true,
         Command::Basic { parent, .. } => is_held(graph, parent),
         Command::Finalize { parent, .. } => is_held(graph, parent),
-        Command::Merge { left, right } => is_held(graph, left) && is_held(graph, right),
+        Command::Merge { left, right, .. } => is_held(graph, left) && is_held(graph, right),
     }
 }
 
-/// Appends a command, where that is allowed.
+// No cut is stated, which is then no wrong one.
+fn states_no_cut<G: Graph>(_graph: &G, command: &Command) -> bool
+    ensures { IsTrue result → (stated : ℕ) → carried command.now ≡ Some stated → stated ≡ cut_behind (G.commands _graph.now) command.now }
+{
+    command.cut().is_none()
+}
+
+/// Appends a command of version 1, where that is allowed.
 pub fn append<G: Graph>(graph: &mut G, command: Command) -> bool
     requires { IsInForm command }
 {
@@ -155,6 +170,9 @@ pub fn append<G: Graph>(graph: &mut G, command: Command) -> bool
         return false;
     }
     if !are_parents_held(graph, &command) {
+        return false;
+    }
+    if !states_no_cut(graph, &command) {
         return false;
     }
     graph.append(command);

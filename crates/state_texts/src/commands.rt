@@ -24,7 +24,7 @@ fn shown(alloc: Global, command: &Command) -> Result<ShownCommand, NoMemory>
         Command::Finalize { parent, name, .. } => {
             Ok(ShownCommand::Finalize(name.copy(alloc)?, *parent))
         }
-        Command::Merge { left, right } => Ok(ShownCommand::Merge(*left, *right)),
+        Command::Merge { left, right, .. } => Ok(ShownCommand::Merge(*left, *right)),
     }
 }
 
