@@ -1,19 +1,18 @@
 -- Runs from a base on.
-use Rattle.std.proofs.Common.{◌≡◌, ℕ, suc, ◌+◌, if◌then◌else◌, take, get_or, eqb, ◌*◌, ◌<◌, ◌≤◌, ◌↔◌, inl, inr, Bool, true, false, IsTrue, List, [], ◌∷◌, ◌++◌, length, slice_get, Some, refl, sym, ap, subst, ◌∙◌, arith}
-use Rattle.std.specs.List.{All, Contains, list_any}
+use Rattle.std.proofs.Common.{◌≡◌, ℕ, suc, ◌+◌, if◌then◌else◌, take, get_or, eqb, ◌*◌, ◌<◌, ◌≤◌, ◌↔◌, inl, inr, Bool, true, false, List, [], ◌∷◌, ◌++◌, length, slice_get, Some, refl, sym, ap, subst, ◌∙◌, arith}
+use Rattle.std.specs.List.{Contains, list_any}
 use Rattle.std.specs.Str.{bytes_eq}
 use Rattle.std.proofs.lemmas.List.Elements.{Contains-get_or, Contains-push_cases}
 use Rattle.std.proofs.lemmas.Bool.Decides.{Decides-eqb}
-use Rattle.braid.specs.Bases.{IsAbove, IsBase}
-use Rattle.braid.specs.Braids.{IsBraid, IsBraidOf, IsBraidTo, IsBraidUnder, picked}
+use Rattle.braid.specs.Bases.{IsAbove}
+use Rattle.braid.specs.Braids.{IsBraidOf, IsBraidUnder, picked}
 use Rattle.braid.proofs.Agreement.{one_braid}
 use Rattle.braid.proofs.BaseFacts.{parts_at}
 use Rattle.braid.proofs.Carrying.{in_one_list}
 use Rattle.braid.proofs.Closures.{all_under}
-use Rattle.braid.proofs.PickOrder.{command_at, one_at}
-use Rattle.braid_run.specs.RunAbove.{AreAbove, AreAllUnder, AreRowsOfAll, AreRowsTo, AreRowsUnder, IsKeptBase, IsRunAbove, IsRunFrom}
+use Rattle.braid_run.specs.RunAbove.{AreAbove, AreAllUnder, AreRowsOfAll, AreRowsUnder, IsKeptBase, IsRunAbove, IsRunFrom}
 use Rattle.braid_run.specs.RunOf.{IsRunUnder}
-use Rattle.braid_run.specs.Runs.{Run, no_run, run_from, run_of, run_on, with_command}
+use Rattle.braid_run.specs.Runs.{no_run, run_from, run_of, run_on, with_command}
 use Rattle.braid_run.specs.declared.entry.Entry.{Entry}
 use Rattle.braid_run.proofs.RunFacts.{few_ticks, run_append}
 use Rattle.command.specs.Ancestors.{Ancestor, IsAt, IsParent, IsUnder, heads, is_parent, places_without}

@@ -1,14 +1,14 @@
 -- Facts that are kept of a command's closure: how they come about, and that they stay.
-use Rattle.std.proofs.Common.{◌≡◌, ◌↔◌, inl, inr, false, List, [], ◌∷◌, ◌++◌, refl, sym, ap, subst, ◌∙◌}
+use Rattle.std.proofs.Common.{◌≡◌, inl, inr, false, List, [], ◌∷◌, ◌++◌, refl, sym, ap, subst, ◌∙◌}
 use Rattle.std.specs.List.{Contains}
 use Rattle.std.proofs.lemmas.List.Elements.{Contains-append_left, Contains-push, Contains-push_cases}
-use Rattle.braid.specs.Braids.{IsBraid, IsBraidOf, IsBraidTo, IsPlaced}
+use Rattle.braid.specs.Braids.{IsBraidOf, IsBraidTo, IsPlaced}
 use Rattle.braid.proofs.Appends.{stays}
 use Rattle.braid.proofs.Carrying.{in_one_list, same_braids}
 use Rattle.braid_run.specs.Places.{AreAtPlace, IsBehind}
 use Rattle.braid_run.specs.Published.{IsSoleHead}
 use Rattle.braid_run.specs.RunAbove.{AreRowsOfAll, AreRowsTo}
-use Rattle.braid_run.specs.Runs.{no_run, rows_behind, run_of, run_on}
+use Rattle.braid_run.specs.Runs.{no_run, rows_behind}
 use Rattle.braid_run.proofs.RunFacts.{run_append}
 use Rattle.braid_run.proofs.StandingFacts.{behind_above}
 use Rattle.command.specs.Ancestors.{Ancestor, IsParent, IsUpTo}
@@ -17,7 +17,7 @@ use Rattle.command.specs.Closed.{IsClosed, IsNext}
 use Rattle.command.specs.Kinds.{is_merge, parents_of}
 use Rattle.command.specs.Wire.{command_id}
 use Rattle.command.specs.declared.command.Command.{Command}
-use Rattle.command.proofs.AncestorFacts.{kept, newer_inside, newest_top, older_inside, was}
+use Rattle.command.proofs.AncestorFacts.{kept, newest_top, older_inside, was}
 use Rattle.command.proofs.ClosedFacts.{held_by, same_by_id}
 use Rattle.command.proofs.ListFacts.{at_head, each_last, each_more, one_element}
 use Rattle.fact_store.specs.declared.row.Row.{Row}

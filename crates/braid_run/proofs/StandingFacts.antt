@@ -24,10 +24,10 @@ behind_above cs c x behind =
 
 -- a command without parents is an init
 no_parent : (c : Command) → ((id : List ℕ) → Contains (parents_of c) id → IsHeld [] id) → is_init c ≡ true
-no_parent (Init digest author name payload tag) held = refl
-no_parent (Basic priority parent author name payload tag) held = let none = held parent (at_head parent []) in absurd cc
-no_parent (Finalize parent author name payload tag) held = let none = held parent (at_head parent []) in absurd cc
-no_parent (Merge left right) held = let none = held left (at_head left (right ∷ [])) in absurd cc
+no_parent (Init cut digest author name payload tag) held = refl
+no_parent (Basic cut priority parent author name payload tag) held = let none = held parent (at_head parent []) in absurd cc
+no_parent (Finalize cut parent author name payload tag) held = let none = held parent (at_head parent []) in absurd cc
+no_parent (Merge cut left right) held = let none = held left (at_head left (right ∷ [])) in absurd cc
 
 is_not : (b : Bool) → (b ≡ true → ⊥) → b ≡ false
 is_not true h = absurd (h refl)

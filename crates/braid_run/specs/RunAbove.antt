@@ -1,6 +1,6 @@
 -- Runs that begin at a base: over the facts there, of what stands above.
-use Rattle.std.specs.Prelude.{◌≡◌, ℕ, ◌+◌, ◌*◌, ◌<◌, ◌≤◌, List, length}
-use Rattle.std.specs.List.{All, Contains}
+use Rattle.std.specs.Prelude.{◌≡◌, ℕ, ◌+◌, List, length}
+use Rattle.std.specs.List.{Contains}
 use Rattle.braid.specs.Bases.{IsAbove, IsBase}
 use Rattle.braid.specs.Braids.{IsBraid, IsBraidOf, IsBraidTo, IsBraidUnder}
 use Rattle.braid_run.specs.Runs.{run_from, run_of, run_on}
@@ -26,17 +26,19 @@ pub record IsRunAbove (policy : List PlacedItem) (cs : List Command) (tips : Lis
 abbrev pub AreAbove : List Command → List ℕ → Command → ℕ → Type 0
 AreAbove cs tips f n = (rest : List Command) → IsBraidOf cs (IsAbove cs tips f) rest → length rest ≡ n
 
--- These are the facts of running the braid of f's closure, of the tips' closure, and of all.
+-- These are the facts of running the braid of f's closure.
 pub record AreRowsTo (policy : List PlacedItem) (cs : List Command) (f : Command) (rows : List Row) : Type 0 where
   pub braid : List Command
   pub is : IsBraidTo cs f braid
   pub same_rows : rows ≡ (run_of policy braid).rows
 
+-- These are the facts of running the braid of the tips' closure.
 pub record AreRowsUnder (policy : List PlacedItem) (cs : List Command) (tips : List ℕ) (rows : List Row) : Type 0 where
   pub braid : List Command
   pub is : IsBraidUnder cs tips braid
   pub same_rows : rows ≡ (run_of policy braid).rows
 
+-- These are the facts of running the whole braid.
 pub record AreRowsOfAll (policy : List PlacedItem) (cs : List Command) (rows : List Row) : Type 0 where
   pub braid : List Command
   pub is : IsBraid cs braid

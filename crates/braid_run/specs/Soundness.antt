@@ -29,22 +29,22 @@ pub record Criteria : Type 0 where
 
 -- An init carries the digest.
 abbrev pub HasDigest : List ℕ → Command → Type 0
-HasDigest digest (command.Init own author name payload tag) = own ≡ digest
+HasDigest digest (command.Init cut own author name payload tag) = own ≡ digest
 HasDigest digest other = Unit {0}
 
 -- The tag is good for the author and the body. A merge has none.
 abbrev pub HasGoodTag : (List ℕ → List ℕ → List ℕ → Bool) → Command → Type 0
-HasGoodTag good (command.Init digest author name payload tag) = IsTrue (good author (body (command.Init digest author name payload tag)) tag)
-HasGoodTag good (command.Basic priority parent author name payload tag) = IsTrue (good author (body (command.Basic priority parent author name payload tag)) tag)
-HasGoodTag good (command.Finalize parent author name payload tag) = IsTrue (good author (body (command.Finalize parent author name payload tag)) tag)
-HasGoodTag good (command.Merge left right) = Unit {0}
+HasGoodTag good (command.Init cut digest author name payload tag) = IsTrue (good author (body (command.Init cut digest author name payload tag)) tag)
+HasGoodTag good (command.Basic cut priority parent author name payload tag) = IsTrue (good author (body (command.Basic cut priority parent author name payload tag)) tag)
+HasGoodTag good (command.Finalize cut parent author name payload tag) = IsTrue (good author (body (command.Finalize cut parent author name payload tag)) tag)
+HasGoodTag good (command.Merge cut left right) = Unit {0}
 
 -- The kind and priority of a command, as a policy declares them. A merge has none.
 abbrev pub kind_of : Command → Option CommandKind
-kind_of (command.Init digest author name payload tag) = Some Init
-kind_of (command.Basic priority parent author name payload tag) = Some (Basic priority)
-kind_of (command.Finalize parent author name payload tag) = Some Finalize
-kind_of (command.Merge left right) = None
+kind_of (command.Init cut digest author name payload tag) = Some Init
+kind_of (command.Basic cut priority parent author name payload tag) = Some (Basic priority)
+kind_of (command.Finalize cut parent author name payload tag) = Some Finalize
+kind_of (command.Merge cut left right) = None
 
 abbrev pub item_kind : Item → Option CommandKind
 item_kind (item.Command name sections) = Some (command_kind sections)

@@ -1,6 +1,5 @@
-use Rattle.std.proofs.Common.{◌≡◌, ℕ, ◌↔◌, IsTrue, List, subst, ◌∙◌}
+use Rattle.std.proofs.Common.{ℕ, ◌↔◌, IsTrue, subst, ◌∙◌}
 use Rattle.std.specs.List.{Contains}
-use Rattle.braid_run.specs.RunAbove.{AreAllUnder}
 use Rattle.braid_run.proofs.AboveFacts.{covered}
 use Rattle.braid_run.proofs.facts.covers.Goals as goal
 

@@ -1,4 +1,3 @@
-use Rattle.std.proofs.Common.{subst, sym, rules}
 use Rattle.braid_run.proofs.AboveFacts.{all_rows}
 use Rattle.braid_run.proofs.facts.facts_under.Goals as goal
 

@@ -1,5 +1,4 @@
 use Rattle.std.proofs.Common.{subst, sym}
-use Rattle.fact_store.specs.declared.row.Row.{Row}
 use Rattle.braid_run.specs.RunAbove.{IsKeptBase}
 use Rattle.braid_run.proofs.AboveFacts.{kept_rows}
 use Rattle.braid_run.proofs.facts.run_kept.Goals as goal

@@ -1,4 +1,4 @@
-use Rattle.std.proofs.Common.{[], subst, sym, rules}
+use Rattle.std.proofs.Common.{[], subst, sym}
 use Rattle.base_bytes.specs.Reaching.{NoneReachesItself}
 use Rattle.policy_rules.specs.WellTyped.{IsWellTyped}
 use Rattle.braid_run.proofs.AboveFacts.{most_whole, run_whole}
