@@ -1,8 +1,9 @@
 // Graphs that are made step by step.
-ghost use Rattle.std.specs.Prelude.{◌≡◌, ◌<◌, ◌≤◌, ◌↔◌, IsTrue, IfOk, IfSome, List, ℕ, length};
+ghost use Rattle.std.specs.Prelude.{◌≡◌, ◌<◌, ◌≤◌, ◌↔◌, IsTrue, IfOk, IfSome, List, Some, ℕ, length};
 ghost use Rattle.std.specs.List.{All, Contains};
 ghost use Rattle.command.specs.Closed.{IsHeld};
-ghost use Rattle.command.specs.Kinds.{parents_of};
+ghost use Rattle.command.specs.Cuts.{cut_behind};
+ghost use Rattle.command.specs.Kinds.{carried, parents_of};
 ghost use Rattle.command.specs.Wire.{IsInForm};
 
 use base_bytes::{Bytes, Id, NoMemory, Tag, Text};

@@ -1,4 +1,4 @@
-use Rattle.std.proofs.Common.{◌≡◌, ℕ, List, OnOk, Result, Ok, Err, Some, subst}
+use Rattle.std.proofs.Common.{◌≡◌, ℕ, List, OnOk, Result, Ok, Err, subst}
 use Rattle.command.specs.Ancestors.{IsAt}
 use Rattle.command.specs.declared.command.Command.{Command as TheCommand}
 use Rattle.sync_peer.specs.working.Walks.{HaveSame, with_parents}
