@@ -1,4 +1,4 @@
-ghost use Rattle.std.specs.Prelude.{◌≡◌, ◌≤◌, IfOk, IfSome, OnErr, length};
+ghost use Rattle.std.specs.Prelude.{◌≡◌, ◌≤◌, IfOk, IfSome, OnErr, length, None};
 ghost use Rattle.command.specs.Wire.{AreContent, IsInForm};
 ghost use Rattle.command.specs.declared.command.Command.TheVariants as command;
 ghost use Rattle.transaction.specs.working.Sealing.{IsSealed};
