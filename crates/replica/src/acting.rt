@@ -1,4 +1,4 @@
-ghost use Rattle.std.specs.Prelude.{◌≡◌, ◌+◌, ◌≤◌, ℕ, List, [], true, None, length, IfErr, IfOk};
+ghost use Rattle.std.specs.Prelude.{◌≡◌, ◌+◌, ◌≤◌, ℕ, List, [], true, None, length, IfErr, IfOk, OnOk};
 ghost use Rattle.braid_run.specs.States.{IsStanding};
 ghost use Rattle.outside.specs.Causes.{Rose};
 ghost use Rattle.replica.specs.Actions.{IsFault};
@@ -127,6 +127,7 @@ pub fn act_on<R: Runner, G: Graph, F: FactBase, D: Disk, E: Envelope, L: Ledger>
     ensures ticks { IfOk result (λ counts. steps.new ≡ steps.old + counts.commands) }
     ensures later { E.faults env.old ≤ E.faults env.new }
     ensures cause { IfErr result (λ why. why ≡ refusal.Act act_fault.SealFault → Rose (E.faults env.old) (E.faults env.new)) }
+    ensures seals { OnOk result (E.faults env.new ≡ E.faults env.old) }
 {
     lists_have_one_run();
     runner.policy();

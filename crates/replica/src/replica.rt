@@ -166,6 +166,7 @@ impl<R: Runner, G: Graph, F: FactBase, D: Disk> Replica<R, G, F, D> {
         ensures ticks { IfOk result (λ counts. steps.new ≡ steps.old + counts.commands) }
         ensures later { E.faults env.old ≤ E.faults env.new }
         ensures cause { IfErr result (λ why. why ≡ refusal.Act act_fault.SealFault → Rose (E.faults env.old) (E.faults env.new)) }
+        ensures seals { OnOk result (E.faults env.new ≡ E.faults env.old) }
         ensures sound { AreSoundFronts E.good self.old → AreSoundFronts E.good self.new }
         ensures crash { IsTrusted E.good (record { tells = D.tells; content = D.content; honest = D.honest }) self.old
             → Withstands E.good (record { tells = D.tells; content = D.content; honest = D.honest }) self.old self.new }
@@ -203,6 +204,7 @@ impl<R: Runner, G: Graph, F: FactBase, D: Disk> Replica<R, G, F, D> {
         ensures ticks { IfOk result (λ counts. steps.new ≡ steps.old + counts.commands) }
         ensures later { E.faults env.old ≤ E.faults env.new }
         ensures cause { IfErr result (λ why. why ≡ refusal.Act act_fault.SealFault → Rose (E.faults env.old) (E.faults env.new)) }
+        ensures seals { OnOk result (E.faults env.new ≡ E.faults env.old) }
         ensures sound { AreSoundFronts E.good self.old → AreSoundFronts E.good self.new }
         ensures crash { IsTrusted E.good (record { tells = D.tells; content = D.content; honest = D.honest }) self.old
             → Withstands E.good (record { tells = D.tells; content = D.content; honest = D.honest }) self.old self.new }
@@ -229,6 +231,7 @@ impl<R: Runner, G: Graph, F: FactBase, D: Disk> Replica<R, G, F, D> {
         ensures ticks { IfOk result (λ counts. steps.new ≡ steps.old + counts.commands) }
         ensures later { E.faults env.old ≤ E.faults env.new }
         ensures cause { IfErr result (λ why. why ≡ refusal.Act act_fault.SealFault → Rose (E.faults env.old) (E.faults env.new)) }
+        ensures seals { OnOk result (E.faults env.new ≡ E.faults env.old) }
         ensures sound { AreSoundFronts E.good self.old → AreSoundFronts E.good self.new }
         ensures crash { IsTrusted E.good (record { tells = D.tells; content = D.content; honest = D.honest }) self.old
             → Withstands E.good (record { tells = D.tells; content = D.content; honest = D.honest }) self.old self.new }

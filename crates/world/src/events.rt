@@ -1,6 +1,6 @@
 //! One call of the replica of a name. Every other replica stays as it is.
 
-ghost use Rattle.std.specs.Prelude.{◌≡◌, ◌≤◌, ℕ, Bool, IfErr, List, false, true};
+ghost use Rattle.std.specs.Prelude.{◌≡◌, ◌≤◌, ℕ, Bool, IfErr, OnOk, List, false, true};
 ghost use Rattle.outside.specs.Causes.{Rose};
 ghost use Rattle.replica.specs.Calls.{ActsIn, Answers, Asks, AsksNext, Begins, Joins, TakesIn};
 ghost use Rattle.replica.specs.declared.refusal.Refusal.TheVariants as refusal;
@@ -34,6 +34,7 @@ pub fn init<R: Runner, G: Graph, F: FactBase, D: Disk, E: Envelope, L: Ledger>(
     ensures step { Changes replicas.old.items name.now (λ before after. Begins before E.good E.tag_of (action_of action.now args.now true) steps.old steps.new result after × Treats (record { tells = D.tells; content = D.content; honest = D.honest }) E.good D.faults before after result) replicas.new.items }
     ensures later { E.faults env.old ≤ E.faults env.new }
     ensures cause { IfErr result (λ why. why ≡ refusal.Act act_fault.SealFault → Rose (E.faults env.old) (E.faults env.new)) }
+    ensures seals { OnOk result (E.faults env.new ≡ E.faults env.old) }
 {
     let place = place_of(replicas.as_slice(), name);
     replicas[place]
@@ -55,6 +56,7 @@ pub fn act<R: Runner, G: Graph, F: FactBase, D: Disk, E: Envelope, L: Ledger>(
     ensures step { Changes replicas.old.items name.now (λ before after. ActsIn before E.good E.tag_of (action_of action.now args.now false) steps.old steps.new result after × Treats (record { tells = D.tells; content = D.content; honest = D.honest }) E.good D.faults before after result) replicas.new.items }
     ensures later { E.faults env.old ≤ E.faults env.new }
     ensures cause { IfErr result (λ why. why ≡ refusal.Act act_fault.SealFault → Rose (E.faults env.old) (E.faults env.new)) }
+    ensures seals { OnOk result (E.faults env.new ≡ E.faults env.old) }
 {
     let place = place_of(replicas.as_slice(), name);
     replicas[place].replica.act(alloc, action, args, env, steps)
