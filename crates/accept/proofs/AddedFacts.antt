@@ -5,11 +5,12 @@ use Rattle.std.specs.Option.{is_some}
 use Rattle.std.specs.Str.{bytes_eq}
 use Rattle.std.proofs.lemmas.Bool.{eqb-true, leb-false}
 use Rattle.std.proofs.lemmas.List.Elements.{Contains-push_cases}
-use Rattle.accept.specs.Admission.{IsAdmission, IsFirstBeside, IsFirstFinalizeWithout, answer_by, bad_envelope, by_held, by_reason, form_by, full, held_with, ill_formed, is_graph_id, is_of_kind, met, missing_parent, not_allowed, not_passed, other_init, parallel_finalize, reason_by}
+use Rattle.accept.specs.Admission.{IsAdmission, IsFirstBeside, IsFirstFinalizeWithout, answer_by, bad_envelope, by_held, by_reason, form_by, full, held_with, ill_formed, is_graph_id, is_of_kind, met, missing_parent, not_allowed, not_passed, other_init, parallel_finalize, reason_by, wrong_cut}
 use Rattle.accept.specs.declared.answer.Admit.TheVariants.{Added, Repeat, Refused}
 use Rattle.accept.specs.declared.answer.Reason.{Reason}
 use Rattle.accept.specs.declared.answer.Reason.TheVariants as reason
 use Rattle.accept.proofs.AnswerFacts.{first_none, no_id}
+use Rattle.accept.proofs.CutFacts.{right_cut}
 use Rattle.accept.proofs.ParallelFacts.{some_beside}
 use Rattle.braid_run.specs.Places.{AreAtPlace, IsBehind}
 use Rattle.braid_run.specs.Soundness.{AreSound, Criteria, DoesPass, HasDigest, HasGoodTag, IsLawful, declared_kind, kind_of}
@@ -51,6 +52,7 @@ pub record IsClear (criteria : Criteria) (graph_id : Option (List ℕ)) (cs : Li
   pub fresh : held_with cs (command_id c) ≡ None
   pub init : other_init criteria.digest graph_id c ≡ None
   pub parents : missing_parent cs c ≡ None
+  pub cut : wrong_cut cs c ≡ None
   pub tag : bad_envelope criteria.good c ≡ None
   pub form : option_map (λ cause. reason.Policy cause) (ill_formed criteria.policy c) ≡ None
   pub passes : option_map (λ cause. reason.Policy cause) (not_allowed criteria.policy rows (call_of criteria.policy c)) ≡ None
@@ -63,12 +65,13 @@ clear criteria graph_id cs c rows beside is =
     let new = new_without c (held_with cs (command_id c)) (reason_by criteria graph_id cs c rows beside) is in
     let a = first_none (other_init criteria.digest graph_id c) _ new.1 in
     let b = first_none (missing_parent cs c) _ a.1 in
-    let d = first_none (bad_envelope criteria.good c) _ b.1 in
+    let w = first_none (wrong_cut cs c) _ b.1 in
+    let d = first_none (bad_envelope criteria.good c) _ w.1 in
     let e = first_none (option_map (λ cause. reason.Policy cause) (ill_formed criteria.policy c)) _ d.1 in
     let f = first_none (option_map (λ cause. reason.Policy cause) (not_allowed criteria.policy rows (call_of criteria.policy c))) _ e.1 in
     let g = first_none (parallel_finalize c beside) _ f.1 in
     let h = first_none (full cs) [] g.1 in
-    record { fresh = new.0; init = a.0; parents = b.0; tag = d.0; form = e.0; passes = f.0; line = g.0; room = h.0 }
+    record { fresh = new.0; init = a.0; parents = b.0; cut = w.0; tag = d.0; form = e.0; passes = f.0; line = g.0; room = h.0 }
 
 -- ---- what each says
 
@@ -105,32 +108,32 @@ named None id is = absurd cc
 -- the init of the graph, under the policy's digest
 own_init : (criteria : Criteria) (graph_id : Option (List ℕ)) (c : Command) → other_init criteria.digest graph_id c ≡ None
     → HasDigest criteria.digest c × (is_init c ≡ true → graph_id ≡ Some (command_id c))
-own_init criteria graph_id (command.Init own author name payload tag) none =
-    let both = not_both (is_graph_id graph_id (command_id (command.Init own author name payload tag))) (bytes_eq own criteria.digest) (none_if _ reason.OtherInit none) in
+own_init criteria graph_id (command.Init cut own author name payload tag) none =
+    let both = not_both (is_graph_id graph_id (command_id (command.Init cut own author name payload tag))) (bytes_eq own criteria.digest) (none_if _ reason.OtherInit none) in
     (same_bytes own criteria.digest both.1, (λ h. named graph_id _ both.0))
-own_init criteria graph_id (command.Basic priority parent author name payload tag) none = (tt, (λ h. absurd cc))
-own_init criteria graph_id (command.Finalize parent author name payload tag) none = (tt, (λ h. absurd cc))
-own_init criteria graph_id (command.Merge left right) none = (tt, (λ h. absurd cc))
+own_init criteria graph_id (command.Basic cut priority parent author name payload tag) none = (tt, (λ h. absurd cc))
+own_init criteria graph_id (command.Finalize cut parent author name payload tag) none = (tt, (λ h. absurd cc))
+own_init criteria graph_id (command.Merge cut left right) none = (tt, (λ h. absurd cc))
 
 tag_is_good : (good : List ℕ → List ℕ → List ℕ → Bool) (c : Command) → bad_envelope good c ≡ None → HasGoodTag good c
-tag_is_good good (command.Init digest author name payload tag) none = some_unless _ reason.BadEnvelope none
-tag_is_good good (command.Basic priority parent author name payload tag) none = some_unless _ reason.BadEnvelope none
-tag_is_good good (command.Finalize parent author name payload tag) none = some_unless _ reason.BadEnvelope none
-tag_is_good good (command.Merge left right) none = tt
+tag_is_good good (command.Init cut digest author name payload tag) none = some_unless _ reason.BadEnvelope none
+tag_is_good good (command.Basic cut priority parent author name payload tag) none = some_unless _ reason.BadEnvelope none
+tag_is_good good (command.Finalize cut parent author name payload tag) none = some_unless _ reason.BadEnvelope none
+tag_is_good good (command.Merge cut left right) none = tt
 
 kind_is : (kind : CommandKind) (c : Command) → is_of_kind kind c ≡ true → Some kind ≡ kind_of c
-kind_is Init (command.Init digest author name payload tag) is = refl
-kind_is (Basic declared) (command.Basic priority parent author name payload tag) is = ap (λ n. Some (Basic n)) (eqb-true declared priority is)
-kind_is Finalize (command.Finalize parent author name payload tag) is = refl
-kind_is Init (command.Basic priority parent author name payload tag) is = absurd cc
-kind_is Init (command.Finalize parent author name payload tag) is = absurd cc
-kind_is Init (command.Merge left right) is = absurd cc
-kind_is (Basic declared) (command.Init digest author name payload tag) is = absurd cc
-kind_is (Basic declared) (command.Finalize parent author name payload tag) is = absurd cc
-kind_is (Basic declared) (command.Merge left right) is = absurd cc
-kind_is Finalize (command.Init digest author name payload tag) is = absurd cc
-kind_is Finalize (command.Basic priority parent author name payload tag) is = absurd cc
-kind_is Finalize (command.Merge left right) is = absurd cc
+kind_is Init (command.Init cut digest author name payload tag) is = refl
+kind_is (Basic declared) (command.Basic cut priority parent author name payload tag) is = ap (λ n. Some (Basic n)) (eqb-true declared priority is)
+kind_is Finalize (command.Finalize cut parent author name payload tag) is = refl
+kind_is Init (command.Basic cut priority parent author name payload tag) is = absurd cc
+kind_is Init (command.Finalize cut parent author name payload tag) is = absurd cc
+kind_is Init (command.Merge cut left right) is = absurd cc
+kind_is (Basic declared) (command.Init cut digest author name payload tag) is = absurd cc
+kind_is (Basic declared) (command.Finalize cut parent author name payload tag) is = absurd cc
+kind_is (Basic declared) (command.Merge cut left right) is = absurd cc
+kind_is Finalize (command.Init cut digest author name payload tag) is = absurd cc
+kind_is Finalize (command.Basic cut priority parent author name payload tag) is = absurd cc
+kind_is Finalize (command.Merge cut left right) is = absurd cc
 
 form_says : (kind : Option CommandKind) (c : Command) (called : Option Call) → form_by kind c called ≡ None → (kind ≡ kind_of c) × (is_some called ≡ true)
 form_says None c called is = absurd cc
@@ -143,10 +146,10 @@ form_says (Some kind) c called is = by (is_of_kind kind c) refl is
 -- the declared kind, and that it is a call
 well_formed : (policy : List PlacedItem) (c : Command) → is_merge c ≡ false → ill_formed policy c ≡ None
     → (option_and_then (λ content. declared_kind policy content.name) (content_of c) ≡ kind_of c) × (is_some (call_of policy c) ≡ true)
-well_formed policy (command.Init digest author name payload tag) none is = form_says _ _ _ is
-well_formed policy (command.Basic priority parent author name payload tag) none is = form_says _ _ _ is
-well_formed policy (command.Finalize parent author name payload tag) none is = form_says _ _ _ is
-well_formed policy (command.Merge left right) none is = absurd cc
+well_formed policy (command.Init cut digest author name payload tag) none is = form_says _ _ _ is
+well_formed policy (command.Basic cut priority parent author name payload tag) none is = form_says _ _ _ is
+well_formed policy (command.Finalize cut parent author name payload tag) none is = form_says _ _ _ is
+well_formed policy (command.Merge cut left right) none is = absurd cc
 
 passes_by : (block recall : Ended) → not_passed block ≡ None → DoesPass (judged_by block recall)
 passes_by (Passes rows effects) recall is = tt
@@ -199,7 +202,7 @@ module _ (criteria : Criteria) (graph_id : Option (List ℕ)) (cs : List Command
 
   pub follows : IsStanding graph_id cs → MayFollow graph_id cs c
   follows standing = record {
-    next = record { formed = formed; fresh = is_fresh; held = parents_are_held };
+    next = record { formed = formed; fresh = is_fresh; held = parents_are_held; cut = right_cut cs c at.1.cut };
     few = few (nat_le max_commands (length cs)) refl at.1.room;
     init = λ init. let own = (own_init criteria graph_id c at.1.init).1 init in (no_commands graph_id cs (command_id c) standing.one_init own is_fresh, own);
     in_line = in_line cs c (some_beside cs c closed).0 (some_beside cs c closed).1 at.1.line;

@@ -33,10 +33,10 @@ attributes_are policy typed name own sections found =
 -- a merge is no call
 pub merge_is_none : (policy : List PlacedItem) (c : Command) → None ≡ option_map (λ content. content.name) (content_of c) → (ill_formed policy c ≡ None) × IsNoCall policy c
 unfolding call_of
-merge_is_none policy (command.Init digest author name payload tag) none = absurd cc
-merge_is_none policy (command.Basic priority parent author name payload tag) none = absurd cc
-merge_is_none policy (command.Finalize parent author name payload tag) none = absurd cc
-merge_is_none policy (command.Merge left right) none = (refl, record { merge = refl; is = refl })
+merge_is_none policy (command.Init cut digest author name payload tag) none = absurd cc
+merge_is_none policy (command.Basic cut priority parent author name payload tag) none = absurd cc
+merge_is_none policy (command.Finalize cut parent author name payload tag) none = absurd cc
+merge_is_none policy (command.Merge cut left right) none = (refl, record { merge = refl; is = refl })
 
 -- what is against a command by the kind that is declared for its name
 pub form_is : (policy : List PlacedItem) (c : Command) (content : Content) (kind : Option CommandKind) (called : Option Call) → content_of c ≡ Some content

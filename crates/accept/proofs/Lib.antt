@@ -2,6 +2,7 @@ mod AnswerFacts
 mod ParallelFacts
 mod FormFacts
 mod PlaceRuns
+mod CutFacts
 mod AddedFacts
 mod TakeFacts
 mod ReasonFacts

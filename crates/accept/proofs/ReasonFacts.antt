@@ -1,14 +1,14 @@
 -- What the functions that look for reasons have found.
-use Rattle.std.proofs.Common.{◌≡◌, ℕ, ◌+◌, Bool, true, false, not, ◌&&◌, cond, List, [], ◌∷◌, find, Option, Some, None, option_map, refl, sym, ap, ◌∙◌, arith}
+use Rattle.std.proofs.Common.{◌≡◌, ℕ, ◌+◌, Bool, true, false, not, ◌&&◌, cond, List, [], ◌∷◌, find, Option, Some, None, Result, Ok, Err, IfOk, option_map, refl, sym, ap, ◌∙◌, arith}
 use Rattle.std.specs.List.{Contains}
 use Rattle.std.specs.Option.{is_some}
-use Rattle.accept.specs.Admission.{IsFirstBeside, bad_envelope, early_reasons, first_of, full, has_good_tag, ill_formed, late_reasons, missing_parent, new_ticks, not_allowed, other_init, parallel_finalize, reason_by}
+use Rattle.accept.specs.Admission.{IsFirstBeside, IsReason, bad_envelope, early_reasons, first_of, full, has_good_tag, ill_formed, late_reasons, missing_parent, new_ticks, not_allowed, other_init, parallel_finalize, reason_by, wrong_cut}
 use Rattle.accept.specs.declared.answer.Reason.{Reason}
 use Rattle.accept.specs.declared.answer.Reason.TheVariants as reason
 use Rattle.accept.proofs.AddedFacts.{all_held, no_map}
 use Rattle.accept.proofs.AnswerFacts.{first_before, first_behind, first_none, last_one}
 use Rattle.accept.proofs.ParallelFacts.{one_first}
-use Rattle.braid_run.specs.Places.{IsBehind}
+use Rattle.braid_run.specs.Places.{AreAtPlace, IsBehind}
 use Rattle.braid_run.specs.Runs.{run_of}
 use Rattle.braid_run.specs.Soundness.{Criteria}
 use Rattle.command.specs.Closed.{IsHeld, has_id}
@@ -27,7 +27,7 @@ is_held_parent cs c none = all_held cs (parents_of c) (no_map (λ id. reason.Mis
 
 module _ (criteria : Criteria) (graph_id : Option (List ℕ)) (cs : List Command) (c : Command) where
   abbrev place_reasons : List (Option Reason)
-  place_reasons = other_init criteria.digest graph_id c ∷ missing_parent cs c ∷ []
+  place_reasons = other_init criteria.digest graph_id c ∷ missing_parent cs c ∷ wrong_cut cs c ∷ []
 
   abbrev form_reason : Option Reason
   form_reason = option_map (λ cause. reason.Policy cause) (ill_formed criteria.policy c)
@@ -54,8 +54,8 @@ module _ (criteria : Criteria) (graph_id : Option (List ℕ)) (cs : List Command
   -- where none applies, the parents are held
   pub early_held : first_of (early_reasons criteria graph_id cs c) ≡ None → missing_parent cs c ≡ None
   early_held none =
-      (first_none (missing_parent cs c) (bad_envelope criteria.good c ∷ form_reason ∷ [])
-      (first_none (other_init criteria.digest graph_id c) (missing_parent cs c ∷ bad_envelope criteria.good c ∷ form_reason ∷ []) none).1).0
+      (first_none (missing_parent cs c) (wrong_cut cs c ∷ bad_envelope criteria.good c ∷ form_reason ∷ [])
+      (first_none (other_init criteria.digest graph_id c) (missing_parent cs c ∷ wrong_cut cs c ∷ bad_envelope criteria.good c ∷ form_reason ∷ []) none).1).0
 
   -- ---- all reasons
 
@@ -65,6 +65,12 @@ module _ (criteria : Criteria) (graph_id : Option (List ℕ)) (cs : List Command
   pub all_late : first_of (early_reasons criteria graph_id cs c) ≡ None → (rows : List Row) (beside : Option (List ℕ)) (found : Option Reason)
       → found ≡ first_of (late_reasons criteria.policy cs c rows beside) → found ≡ reason_by criteria graph_id cs c rows beside
   all_late none rows beside found is = is ∙ sym (first_behind (early_reasons criteria graph_id cs c) (late_reasons criteria.policy cs c rows beside) none)
+
+  pub late_reason : {E : Type 0} → first_of (early_reasons criteria graph_id cs c) ≡ None → (r : Result (Option Reason) E)
+      → IfOk r (λ found. (rows : List Row) (beside : Option (List ℕ)) → AreAtPlace criteria.policy cs c rows → IsFirstBeside cs c beside → found ≡ first_of (late_reasons criteria.policy cs c rows beside))
+      → IfOk r (IsReason criteria graph_id cs c)
+  late_reason none (Ok found) is = λ rows beside there first. all_late none rows beside found (is rows beside there first)
+  late_reason none (Err e) is = tt
 
   -- ---- the blocks that are run
 

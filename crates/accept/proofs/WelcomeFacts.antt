@@ -6,7 +6,7 @@ use Rattle.std.specs.Str.{bytes_eq}
 use Rattle.std.proofs.lemmas.Bool.{eq-eqb, leb-true}
 use Rattle.std.proofs.lemmas.List.Elements.{All-contains}
 use Rattle.std.proofs.lemmas.Option.{same_Some}
-use Rattle.accept.specs.Admission.{IsAdmission, IsFirstBeside, IsFirstFinalizeWithout, answer_by, bad_envelope, by_held, by_reason, first_of, form_by, form_of, full, held_with, ill_formed, is_graph_id, is_of_kind, late_reasons, met, missing_parent, not_allowed, not_passed, other_init, parallel_finalize, reason_by}
+use Rattle.accept.specs.Admission.{IsAdmission, IsFirstBeside, IsFirstFinalizeWithout, answer_by, bad_envelope, by_held, by_reason, first_of, form_by, form_of, full, held_with, ill_formed, is_graph_id, is_of_kind, late_reasons, met, missing_parent, not_allowed, not_passed, other_init, parallel_finalize, reason_by, wrong_cut}
 use Rattle.accept.specs.Laws.{IsHindered, IsWelcome}
 use Rattle.accept.specs.declared.answer.Admit.{Admit}
 use Rattle.accept.specs.declared.answer.Admit.TheVariants.{Added, Repeat, Refused}
@@ -14,6 +14,7 @@ use Rattle.accept.specs.declared.answer.Reason.{Reason}
 use Rattle.accept.specs.declared.answer.Reason.TheVariants as reason
 use Rattle.accept.proofs.AddedFacts.{all_held, no_map}
 use Rattle.accept.proofs.AnswerFacts.{held_with_is, no_id}
+use Rattle.accept.proofs.CutFacts.{no_wrong_cut}
 use Rattle.accept.proofs.ParallelFacts.{some_beside}
 use Rattle.braid_run.specs.Places.{AgreeOnIds, AreAtPlace, IsBehind}
 use Rattle.braid_run.specs.Soundness.{AreSound, Criteria, DoesPass, HasDigest, HasGoodTag, IsLawful, declared_kind, kind_of}
@@ -54,18 +55,18 @@ both_so a b one other = ap (λ x. cond (not (x && b)) (Some reason.OtherInit) No
 
 no_other_init : (digest : List ℕ) (graph_id : Option (List ℕ)) (c : Command) → (is_merge c ≡ false → HasDigest digest c) → (is_init c ≡ true → graph_id ≡ Some (command_id c))
     → other_init digest graph_id c ≡ None
-no_other_init digest graph_id (command.Init own author name payload tag) has named =
-    both_so (is_graph_id graph_id (command_id (command.Init own author name payload tag))) (bytes_eq own digest)
-    (own_id graph_id (command_id (command.Init own author name payload tag)) (named refl)) (bytes_of_same own digest (has refl))
-no_other_init digest graph_id (command.Basic priority parent author name payload tag) has named = refl
-no_other_init digest graph_id (command.Finalize parent author name payload tag) has named = refl
-no_other_init digest graph_id (command.Merge left right) has named = refl
+no_other_init digest graph_id (command.Init cut own author name payload tag) has named =
+    both_so (is_graph_id graph_id (command_id (command.Init cut own author name payload tag))) (bytes_eq own digest)
+    (own_id graph_id (command_id (command.Init cut own author name payload tag)) (named refl)) (bytes_of_same own digest (has refl))
+no_other_init digest graph_id (command.Basic cut priority parent author name payload tag) has named = refl
+no_other_init digest graph_id (command.Finalize cut parent author name payload tag) has named = refl
+no_other_init digest graph_id (command.Merge cut left right) has named = refl
 
 no_bad_envelope : (good : List ℕ → List ℕ → List ℕ → Bool) (c : Command) → (is_merge c ≡ false → HasGoodTag good c) → bad_envelope good c ≡ None
-no_bad_envelope good (command.Init digest author name payload tag) has = ap (λ b. cond b None (Some reason.BadEnvelope)) (has refl)
-no_bad_envelope good (command.Basic priority parent author name payload tag) has = ap (λ b. cond b None (Some reason.BadEnvelope)) (has refl)
-no_bad_envelope good (command.Finalize parent author name payload tag) has = ap (λ b. cond b None (Some reason.BadEnvelope)) (has refl)
-no_bad_envelope good (command.Merge left right) has = refl
+no_bad_envelope good (command.Init cut digest author name payload tag) has = ap (λ b. cond b None (Some reason.BadEnvelope)) (has refl)
+no_bad_envelope good (command.Basic cut priority parent author name payload tag) has = ap (λ b. cond b None (Some reason.BadEnvelope)) (has refl)
+no_bad_envelope good (command.Finalize cut parent author name payload tag) has = ap (λ b. cond b None (Some reason.BadEnvelope)) (has refl)
+no_bad_envelope good (command.Merge cut left right) has = refl
 
 -- what passes is a call, and its policy block passes
 is_called : (policy : List PlacedItem) (rows : List Row) (called : Option Call) → DoesPass (call_judged policy rows called) → is_some called ≡ true
@@ -86,11 +87,11 @@ call_is_allowed policy rows None pass = refl
 call_is_allowed policy rows (Some call) pass = block_passes (policy_block policy call rows) (recall_block policy call rows) pass
 
 of_kind_kind : (c : Command) (kind : CommandKind) → kind_of c ≡ Some kind → is_of_kind kind c ≡ true
-of_kind_kind (command.Init digest author name payload tag) kind is = let same : Init ≡ kind = same_Some Init kind is in subst (λ k. is_of_kind k (command.Init digest author name payload tag) ≡ true) same refl
-of_kind_kind (command.Basic priority parent author name payload tag) kind is =
-    let same : Basic priority ≡ kind = same_Some (Basic priority) kind is in subst (λ k. is_of_kind k (command.Basic priority parent author name payload tag) ≡ true) same (eq-eqb priority priority refl)
-of_kind_kind (command.Finalize parent author name payload tag) kind is = let same : Finalize ≡ kind = same_Some Finalize kind is in subst (λ k. is_of_kind k (command.Finalize parent author name payload tag) ≡ true) same refl
-of_kind_kind (command.Merge left right) kind is = absurd cc
+of_kind_kind (command.Init cut digest author name payload tag) kind is = let same : Init ≡ kind = same_Some Init kind is in subst (λ k. is_of_kind k (command.Init cut digest author name payload tag) ≡ true) same refl
+of_kind_kind (command.Basic cut priority parent author name payload tag) kind is =
+    let same : Basic priority ≡ kind = same_Some (Basic priority) kind is in subst (λ k. is_of_kind k (command.Basic cut priority parent author name payload tag) ≡ true) same (eq-eqb priority priority refl)
+of_kind_kind (command.Finalize cut parent author name payload tag) kind is = let same : Finalize ≡ kind = same_Some Finalize kind is in subst (λ k. is_of_kind k (command.Finalize cut parent author name payload tag) ≡ true) same refl
+of_kind_kind (command.Merge cut left right) kind is = absurd cc
 
 form_is_none : (declared : Option CommandKind) (c : Command) (kind : CommandKind) (called : Option Call) → declared ≡ Some kind → is_of_kind kind c ≡ true → is_some called ≡ true
     → form_by declared c called ≡ None
@@ -101,27 +102,27 @@ form_is_none declared c kind called is of_kind calls =
 
 well_formed_by : (policy : List PlacedItem) (c : Command) (kind : CommandKind) → kind_of c ≡ Some kind → option_and_then (λ content. declared_kind policy content.name) (content_of c) ≡ kind_of c
     → is_some (call_of policy c) ≡ true → ill_formed policy c ≡ None
-well_formed_by policy (command.Init digest author name payload tag) kind is declared calls =
-    let c = command.Init digest author name payload tag in form_is_none (declared_kind policy name) c kind (call_of policy c) (declared ∙ is) (of_kind_kind c kind is) calls
-well_formed_by policy (command.Basic priority parent author name payload tag) kind is declared calls =
-    let c = command.Basic priority parent author name payload tag in form_is_none (declared_kind policy name) c kind (call_of policy c) (declared ∙ is) (of_kind_kind c kind is) calls
-well_formed_by policy (command.Finalize parent author name payload tag) kind is declared calls =
-    let c = command.Finalize parent author name payload tag in form_is_none (declared_kind policy name) c kind (call_of policy c) (declared ∙ is) (of_kind_kind c kind is) calls
-well_formed_by policy (command.Merge left right) kind is declared calls = absurd cc
+well_formed_by policy (command.Init cut digest author name payload tag) kind is declared calls =
+    let c = command.Init cut digest author name payload tag in form_is_none (declared_kind policy name) c kind (call_of policy c) (declared ∙ is) (of_kind_kind c kind is) calls
+well_formed_by policy (command.Basic cut priority parent author name payload tag) kind is declared calls =
+    let c = command.Basic cut priority parent author name payload tag in form_is_none (declared_kind policy name) c kind (call_of policy c) (declared ∙ is) (of_kind_kind c kind is) calls
+well_formed_by policy (command.Finalize cut parent author name payload tag) kind is declared calls =
+    let c = command.Finalize cut parent author name payload tag in form_is_none (declared_kind policy name) c kind (call_of policy c) (declared ∙ is) (of_kind_kind c kind is) calls
+well_formed_by policy (command.Merge cut left right) kind is declared calls = absurd cc
 
 no_ill_form : (policy : List PlacedItem) (c : Command) → (is_merge c ≡ false → option_and_then (λ content. declared_kind policy content.name) (content_of c) ≡ kind_of c)
     → (is_merge c ≡ false → is_some (call_of policy c) ≡ true) → ill_formed policy c ≡ None
-no_ill_form policy (command.Init digest author name payload tag) declared calls = well_formed_by policy (command.Init digest author name payload tag) Init refl (declared refl) (calls refl)
-no_ill_form policy (command.Basic priority parent author name payload tag) declared calls = well_formed_by policy (command.Basic priority parent author name payload tag) (Basic priority) refl (declared refl) (calls refl)
-no_ill_form policy (command.Finalize parent author name payload tag) declared calls = well_formed_by policy (command.Finalize parent author name payload tag) Finalize refl (declared refl) (calls refl)
-no_ill_form policy (command.Merge left right) declared calls = refl
+no_ill_form policy (command.Init cut digest author name payload tag) declared calls = well_formed_by policy (command.Init cut digest author name payload tag) Init refl (declared refl) (calls refl)
+no_ill_form policy (command.Basic cut priority parent author name payload tag) declared calls = well_formed_by policy (command.Basic cut priority parent author name payload tag) (Basic priority) refl (declared refl) (calls refl)
+no_ill_form policy (command.Finalize cut parent author name payload tag) declared calls = well_formed_by policy (command.Finalize cut parent author name payload tag) Finalize refl (declared refl) (calls refl)
+no_ill_form policy (command.Merge cut left right) declared calls = refl
 
 merge_is_allowed : (policy : List PlacedItem) (rows : List Row) (c : Command) → is_merge c ≡ true → not_allowed policy rows (call_of policy c) ≡ None
 unfolding call_of
-merge_is_allowed policy rows (command.Init digest author name payload tag) is = absurd cc
-merge_is_allowed policy rows (command.Basic priority parent author name payload tag) is = absurd cc
-merge_is_allowed policy rows (command.Finalize parent author name payload tag) is = absurd cc
-merge_is_allowed policy rows (command.Merge left right) is = refl
+merge_is_allowed policy rows (command.Init cut digest author name payload tag) is = absurd cc
+merge_is_allowed policy rows (command.Basic cut priority parent author name payload tag) is = absurd cc
+merge_is_allowed policy rows (command.Finalize cut parent author name payload tag) is = absurd cc
+merge_is_allowed policy rows (command.Merge cut left right) is = refl
 
 -- ---- the first reason, test by test
 
@@ -131,10 +132,10 @@ past o more none = sym (ap (λ p. first_of (p ∷ more)) none)
 
 module _ (P : Option Reason → Type 0) where
   -- the reasons in their order, where the first and those of the form are none
-  by_order : (init parent tag form passes line room : Option Reason) → init ≡ None → ((cause : Reason) → parent ≡ Some cause → P (Some cause))
-      → (parent ≡ None → (tag ≡ None) × (form ≡ None) × (passes ≡ None)) → ((cause : Reason) → line ≡ Some cause → P (Some cause)) → ((cause : Reason) → room ≡ Some cause → P (Some cause)) → P None
-      → P (first_of (init ∷ parent ∷ tag ∷ form ∷ passes ∷ line ∷ room ∷ []))
-  by_order init parent tag form passes line room no_init missing rest beside no_room none = subst P (past init (parent ∷ tag ∷ form ∷ passes ∷ line ∷ room ∷ []) no_init) (by parent refl)
+  by_order : (init parent cut tag form passes line room : Option Reason) → init ≡ None → ((cause : Reason) → parent ≡ Some cause → P (Some cause))
+      → (parent ≡ None → (cut ≡ None) × (tag ≡ None) × (form ≡ None) × (passes ≡ None)) → ((cause : Reason) → line ≡ Some cause → P (Some cause)) → ((cause : Reason) → room ≡ Some cause → P (Some cause)) → P None
+      → P (first_of (init ∷ parent ∷ cut ∷ tag ∷ form ∷ passes ∷ line ∷ room ∷ []))
+  by_order init parent cut tag form passes line room no_init missing rest beside no_room none = subst P (past init (parent ∷ cut ∷ tag ∷ form ∷ passes ∷ line ∷ room ∷ []) no_init) (by parent refl)
     where
       last : (o : Option Reason) → room ≡ o → P (first_of (o ∷ []))
       last None is = none
@@ -144,11 +145,13 @@ module _ (P : Option Reason → Type 0) where
       in_line None is = last room refl
       in_line (Some cause) is = beside cause is
 
-      by : (o : Option Reason) → parent ≡ o → P (first_of (o ∷ tag ∷ form ∷ passes ∷ line ∷ room ∷ []))
+      by : (o : Option Reason) → parent ≡ o → P (first_of (o ∷ cut ∷ tag ∷ form ∷ passes ∷ line ∷ room ∷ []))
       by (Some cause) is = missing cause is
       by None is =
           let clear = rest is in
-          subst P (past tag (form ∷ passes ∷ line ∷ room ∷ []) clear.0) (subst P (past form (passes ∷ line ∷ room ∷ []) clear.1) (subst P (past passes (line ∷ room ∷ []) clear.2) (in_line line refl)))
+          subst P (past cut (tag ∷ form ∷ passes ∷ line ∷ room ∷ []) clear.0)
+          (subst P (past tag (form ∷ passes ∷ line ∷ room ∷ []) clear.1)
+          (subst P (past form (passes ∷ line ∷ room ∷ []) clear.2) (subst P (past passes (line ∷ room ∷ []) clear.3) (in_line line refl))))
 
 -- ---- the reasons that are left
 
@@ -212,12 +215,13 @@ module _ (criteria : Criteria) (graph_id : Option (List ℕ)) (cs sound : List C
   new_welcome : (IsHeld cs (command_id c) → ⊥) → (rows : List Row) (beside : Option (List ℕ)) → AreAtPlace criteria.policy cs c rows → IsFirstBeside cs c beside
       → IsWelcome cs c (by_reason (reason_by criteria graph_id cs c rows beside))
   new_welcome fresh rows beside at first =
-      by_order (λ o. IsWelcome cs c (by_reason o)) (other_init criteria.digest graph_id c) (missing_parent cs c) (bad_envelope criteria.good c)
+      by_order (λ o. IsWelcome cs c (by_reason o)) (other_init criteria.digest graph_id c) (missing_parent cs c) (wrong_cut cs c) (bad_envelope criteria.good c)
       (option_map (λ cause. reason.Policy cause) (ill_formed criteria.policy c)) (option_map (λ cause. reason.Policy cause) (not_allowed criteria.policy rows (call_of criteria.policy c)))
       (parallel_finalize c beside) (full cs)
       (no_other_init criteria.digest graph_id c (λ none. (lawful none).digest) (λ init. init_is_named graph_id sound c are.standing.one_init inside init))
       (λ cause is. (fresh, missing_hinders cs c (find (λ id. not (has_id cs id)) (parents_of c)) refl cause is))
       (λ held. (
+        no_wrong_cut cs sound closed are.standing.closed agree c inside (all_held cs (parents_of c) (no_map (λ id. reason.MissingParent id) (find (λ id. not (has_id cs id)) (parents_of c)) held)),
         no_bad_envelope criteria.good c (λ none. (lawful none).tag),
         ap (option_map (λ cause. reason.Policy cause)) (no_ill_form criteria.policy c (λ none. (lawful none).kind) is_call),
         ap (option_map (λ cause. reason.Policy cause))

@@ -10,7 +10,8 @@ use Rattle.braid_run.specs.Places.{AreAtPlace, IsBehind}
 use Rattle.braid_run.specs.Runs.{run_of}
 use Rattle.braid_run.specs.Soundness.{Criteria, declared_kind}
 use Rattle.command.specs.Closed.{has_id, max_commands}
-use Rattle.command.specs.Kinds.{is_finalize, parents_of}
+use Rattle.command.specs.Cuts.{cut_behind}
+use Rattle.command.specs.Kinds.{carried, is_finalize, parents_of}
 use Rattle.command.specs.Wire.{body, command_id, wire}
 use Rattle.command.specs.declared.command.Command.{Command}
 use Rattle.command.specs.declared.command.Command.TheVariants as command
@@ -43,7 +44,7 @@ is_graph_id None id = false
 
 -- An init that isn't the graph's own, or that has another policy's digest.
 abbrev pub is_other_init : List ℕ → Option (List ℕ) → Command → Bool
-is_other_init digest graph_id (command.Init own author name payload tag) = not (is_graph_id graph_id (command_id (command.Init own author name payload tag)) && bytes_eq own digest)
+is_other_init digest graph_id (command.Init cut own author name payload tag) = not (is_graph_id graph_id (command_id (command.Init cut own author name payload tag)) && bytes_eq own digest)
 is_other_init digest graph_id other = false
 
 abbrev pub other_init : List ℕ → Option (List ℕ) → Command → Option Reason
@@ -53,21 +54,29 @@ other_init digest graph_id c = if is_other_init digest graph_id c then Some reas
 abbrev pub missing_parent : List Command → Command → Option Reason
 missing_parent cs c = option_map (λ id. reason.MissingParent id) (find (λ id. not (has_id cs id)) (parents_of c))
 
+-- A stated cut that isn't the real one. The reason carries both.
+abbrev pub cut_by : ℕ → ℕ → Option Reason
+cut_by real stated = if stated == real then None else Some (reason.WrongCut stated real)
+
+-- A command of version 2 states its cut, and it isn't its cut.
+abbrev pub wrong_cut : List Command → Command → Option Reason
+wrong_cut cs c = option_and_then (cut_by (cut_behind cs c)) (carried c)
+
 -- The tag is good for the author and the body. A merge has none.
 abbrev pub has_good_tag : (List ℕ → List ℕ → List ℕ → Bool) → Command → Bool
-has_good_tag good (command.Init digest author name payload tag) = good author (body (command.Init digest author name payload tag)) tag
-has_good_tag good (command.Basic priority parent author name payload tag) = good author (body (command.Basic priority parent author name payload tag)) tag
-has_good_tag good (command.Finalize parent author name payload tag) = good author (body (command.Finalize parent author name payload tag)) tag
-has_good_tag good (command.Merge left right) = true
+has_good_tag good (command.Init cut digest author name payload tag) = good author (body (command.Init cut digest author name payload tag)) tag
+has_good_tag good (command.Basic cut priority parent author name payload tag) = good author (body (command.Basic cut priority parent author name payload tag)) tag
+has_good_tag good (command.Finalize cut parent author name payload tag) = good author (body (command.Finalize cut parent author name payload tag)) tag
+has_good_tag good (command.Merge cut left right) = true
 
 abbrev pub bad_envelope : (List ℕ → List ℕ → List ℕ → Bool) → Command → Option Reason
 bad_envelope good c = if has_good_tag good c then None else Some reason.BadEnvelope
 
 -- The command is of this kind, and has this priority.
 abbrev pub is_of_kind : CommandKind → Command → Bool
-is_of_kind Init (command.Init digest author name payload tag) = true
-is_of_kind (Basic declared) (command.Basic priority parent author name payload tag) = declared == priority
-is_of_kind Finalize (command.Finalize parent author name payload tag) = true
+is_of_kind Init (command.Init cut digest author name payload tag) = true
+is_of_kind (Basic declared) (command.Basic cut priority parent author name payload tag) = declared == priority
+is_of_kind Finalize (command.Finalize cut parent author name payload tag) = true
 is_of_kind kind other = false
 
 -- By the kind that the policy declares for its name: there is none; it is of another; or its payload is no value of the fields, so that it is no call.
@@ -123,7 +132,7 @@ first_of (None ∷ more) = first_of more
 -- The reasons against a new command, in their order: first those that need no facts.
 abbrev pub early_reasons : Criteria → Option (List ℕ) → List Command → Command → List (Option Reason)
 early_reasons criteria graph_id cs c =
-    other_init criteria.digest graph_id c ∷ missing_parent cs c ∷ bad_envelope criteria.good c ∷ option_map (λ cause. reason.Policy cause) (ill_formed criteria.policy c) ∷ []
+    other_init criteria.digest graph_id c ∷ missing_parent cs c ∷ wrong_cut cs c ∷ bad_envelope criteria.good c ∷ option_map (λ cause. reason.Policy cause) (ill_formed criteria.policy c) ∷ []
 
 -- Then those by the facts at its place and by the first finalize beside it.
 abbrev pub late_reasons : List PlacedItem → List Command → Command → List Row → Option (List ℕ) → List (Option Reason)

@@ -10,6 +10,8 @@ pub enum Reason {
     OtherInit,
     /// This parent isn't held; of two, the left one comes first.
     MissingParent(Id),
+    /// It states this cut, and its parents give it the real one.
+    WrongCut { stated: u32, real: u32 },
     /// The tag isn't good for the author and the body.
     BadEnvelope,
     /// The policy doesn't accept it.

@@ -3,6 +3,7 @@
 
 mod admission;
 mod answer;
+mod cuts;
 mod forms;
 pub mod laws;
 mod parallel;

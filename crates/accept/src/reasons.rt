@@ -1,7 +1,7 @@
 //! The reasons against a command whose id isn't held, in their order.
 
 ghost use Rattle.std.specs.Prelude.{◌≡◌, ◌≤◌, ◌<◌, ◌+◌, ℕ, [], ◌∷◌, ◌++◌, List, Some, None, Option, find, length, not, option_map, IfOk, OnOk};
-ghost use Rattle.accept.specs.Admission.{IsFirstBeside, IsReason, first_of, full, is_graph_id, is_other_init, late_reasons, missing_parent, new_ticks, not_allowed, not_passed, other_init, parallel_finalize};
+ghost use Rattle.accept.specs.Admission.{IsFirstBeside, IsReason, first_of, full, is_graph_id, is_other_init, late_reasons, missing_parent, new_ticks, not_allowed, not_passed, other_init, parallel_finalize, wrong_cut};
 ghost use Rattle.accept.specs.working.Forms.{IsEarly, IsTheCall};
 ghost use Rattle.braid.specs.Braids.{IsBraidOf};
 ghost use Rattle.braid_run.specs.Places.{AreAtPlace, IsBehind};
@@ -14,6 +14,7 @@ ghost use Rattle.fact_store.specs.declared.row.Row.{Row};
 ghost use Rattle.policy_meaning.specs.Blocks.{ended};
 
 use crate::answer::Reason;
+use crate::cuts::wrong_cut;
 use crate::forms::{Form, form_of};
 use crate::parallel::first_beside_child;
 use crate::places::facts_at_place;
@@ -78,24 +79,28 @@ fn first_missing<G: Graph>(graph: &G, ids: &[Id]) -> Option<Id>
     None
 }
 
-/// What is against the place of the command: it is no init of the graph, or a parent isn't held.
+/// What is against the place of the command: it is no init of the graph, a parent isn't held, or it states a wrong cut.
 fn misplaced<G: Graph>(
+    alloc: Global,
     digest: &Id,
     graph_id: &Option<Id>,
     graph: &G,
     command: &Command,
     id: &Id,
-) -> Option<Reason>
+) -> Result<Option<Reason>, NoMemory>
     requires id { id.now ≡ command_id command.now }
-    ensures { result ≡ first_of (other_init digest.now graph_id.now command.now ∷ missing_parent (G.commands graph.now) command.now ∷ []) }
+    ensures { IfOk result (λ found. found ≡ first_of (other_init digest.now graph_id.now command.now ∷ missing_parent (G.commands graph.now) command.now ∷ wrong_cut (G.commands graph.now) command.now ∷ [])) }
 {
     if is_other_init(digest, graph_id, command, id) {
-        return Some(Reason::OtherInit);
+        return Ok(Some(Reason::OtherInit));
     }
     let parents = command.parents();
     match first_missing(graph, parents.as_slice()) {
-        Some(parent) => Some(Reason::MissingParent(parent)),
-        None => None,
+        Some(parent) => Ok(Some(Reason::MissingParent(parent))),
+        None => {
+            let found = wrong_cut(alloc, graph, command)?;
+            Ok(found)
+        }
     }
 }
 
@@ -114,7 +119,7 @@ fn early_reason<R: Runner, G: Graph, E: Envelope>(
     requires id { id.now ≡ command_id command.now }
     ensures { IfOk result (IsEarly (record { policy = R.rules runner.now; digest = digest.now; good = E.good }) graph_id.now (G.commands graph.now) command.now) }
 {
-    if let Some(reason) = misplaced(digest, graph_id, graph, command, id) {
+    if let Some(reason) = misplaced(alloc, digest, graph_id, graph, command, id)? {
         return Ok(Early::Against(reason));
     }
     if !has_good_tag(alloc, env, command)? {
