@@ -48,6 +48,7 @@ fn small_lists_grow(rt: HostRuntime) -> Result<(), Fail> {
 
 fn merge(left: u8, right: u8) -> Command {
     Command::Merge {
+        cut: None,
         left: Id::new([left; 32]),
         right: Id::new([right; 32]),
     }
@@ -55,9 +56,11 @@ fn merge(left: u8, right: u8) -> Command {
 
 fn is_merge(command: &Command, low: u8, high: u8) -> bool {
     match command {
-        Command::Merge { left, right } => {
-            *left == Id::new([low; 32]) && *right == Id::new([high; 32])
-        }
+        Command::Merge {
+            cut: _,
+            left,
+            right,
+        } => { *left == Id::new([low; 32]) && *right == Id::new([high; 32]) }
         _ => false,
     }
 }
