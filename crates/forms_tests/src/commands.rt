@@ -54,15 +54,43 @@ const MERGE: Form = Form {
     id: "5ec9bbc8e183925852498a007d411736b0386f0f70ba3d925a690c9d87dfcfdb",
 };
 
+const START_WITH_CUT: Form = Form {
+    size: 114,
+    body: "020000000000111111111111111111111111111111111111111111111111111111111111111122222222222222222222222222222222222222222222222222222222222222220005537461727400000000",
+    after_body: TAG,
+    id: "0dff091bd9b5da4f31caa2f590d19564d4266f39139bd28296c8ec58ff33372a",
+};
+
+const PUT_WITH_CUT: Form = Form {
+    size: 124,
+    body: "02010000000100000007333333333333333333333333333333333333333333333333333333333333333322222222222222222222222222222222222222222222222222222222222222220003507574000000080000000000000001",
+    after_body: TAG,
+    id: "889ab4c05bdb6dddf0ba76882de2b5bf8acde4957d9093914ef8999c720ead1b",
+};
+
+const CLOSE_WITH_CUT: Form = Form {
+    size: 114,
+    body: "02020000ffff333333333333333333333333333333333333333333333333333333333333333322222222222222222222222222222222222222222222222222222222222222220005436c6f736500000000",
+    after_body: TAG,
+    id: "a107be43ad408d342053fd90f355bbde97e1d7b126340e4b0065408e77706d95",
+};
+
+const MERGE_WITH_CUT: Form = Form {
+    size: 70,
+    body: "02030102030401010101010101010101010101010101010101010101010101010101010101010202020202020202020202020202020202020202020202020202020202020202",
+    after_body: "",
+    id: "436b5e738d0072d8246e5b0caf6730147674eedc70f60b58a2d31f242fc74707",
+};
+
 fn tag() -> Tag {
     Tag::from_slice(&SEAL).unwrap()
 }
 
-fn start(alloc: Global) -> Result<Command, NoMemory>
+fn start(alloc: Global, cut: Option<u32>) -> Result<Command, NoMemory>
     ensures { IfOk result (λ command. IsInForm command) }
 {
     Ok(Command::Init {
-        cut: None,
+        cut,
         digest: Id::new(DIGEST),
         author: Id::new(AUTHOR),
         name: Text::from_slice(alloc, "Start")?,
@@ -71,13 +99,13 @@ fn start(alloc: Global) -> Result<Command, NoMemory>
     })
 }
 
-fn put(alloc: Global) -> Result<Command, NoMemory>
+fn put(alloc: Global, cut: Option<u32>) -> Result<Command, NoMemory>
     ensures { IfOk result (λ command. IsInForm command) }
 {
     let mut payload = Bytes::new(alloc);
     encode_value(alloc, &Value::Int(1), &mut payload)?;
     Ok(Command::Basic {
-        cut: None,
+        cut,
         priority: 7,
         parent: Id::new(PARENT),
         author: Id::new(AUTHOR),
@@ -87,11 +115,11 @@ fn put(alloc: Global) -> Result<Command, NoMemory>
     })
 }
 
-fn close(alloc: Global) -> Result<Command, NoMemory>
+fn close(alloc: Global, cut: Option<u32>) -> Result<Command, NoMemory>
     ensures { IfOk result (λ command. IsInForm command) }
 {
     Ok(Command::Finalize {
-        cut: None,
+        cut,
         parent: Id::new(PARENT),
         author: Id::new(AUTHOR),
         name: Text::from_slice(alloc, "Close")?,
@@ -100,11 +128,11 @@ fn close(alloc: Global) -> Result<Command, NoMemory>
     })
 }
 
-fn merge() -> Command
+fn merge(cut: Option<u32>) -> Command
     ensures { IsInForm result }
 {
     Command::Merge {
-        cut: None,
+        cut,
         left: Id::new([1; 32]),
         right: Id::new([2; 32]),
     }
@@ -178,9 +206,20 @@ fn assert_form(
 #[test]
 fn commands_have_their_form(rt: HostRuntime) -> Result<(), Fail> {
     let alloc = rt.alloc();
-    assert_form(&rt, alloc, &start(alloc)?, &START)?;
-    assert_form(&rt, alloc, &put(alloc)?, &PUT)?;
-    assert_form(&rt, alloc, &close(alloc)?, &CLOSE)?;
-    assert_form(&rt, alloc, &merge().copy(alloc)?, &MERGE)?;
+    assert_form(&rt, alloc, &start(alloc, None)?, &START)?;
+    assert_form(&rt, alloc, &put(alloc, None)?, &PUT)?;
+    assert_form(&rt, alloc, &close(alloc, None)?, &CLOSE)?;
+    assert_form(&rt, alloc, &merge(None).copy(alloc)?, &MERGE)?;
+    Ok(())
+}
+
+#[test]
+fn commands_that_carry_their_cut_have_their_form(rt: HostRuntime) -> Result<(), Fail> {
+    let alloc = rt.alloc();
+    assert_form(&rt, alloc, &start(alloc, Some(0))?, &START_WITH_CUT)?;
+    assert_form(&rt, alloc, &put(alloc, Some(1))?, &PUT_WITH_CUT)?;
+    assert_form(&rt, alloc, &close(alloc, Some(65535))?, &CLOSE_WITH_CUT)?;
+    let merge = merge(Some(16909060)).copy(alloc)?;
+    assert_form(&rt, alloc, &merge, &MERGE_WITH_CUT)?;
     Ok(())
 }

@@ -56,9 +56,11 @@ fn merge(left: u8, right: u8) -> Command {
 
 fn is_merge(command: &Command, low: u8, high: u8) -> bool {
     match command {
-        Command::Merge { left, right, .. } => {
-            *left == Id::new([low; 32]) && *right == Id::new([high; 32])
-        }
+        Command::Merge {
+            cut: _,
+            left,
+            right,
+        } => { *left == Id::new([low; 32]) && *right == Id::new([high; 32]) }
         _ => false,
     }
 }

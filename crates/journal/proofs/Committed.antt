@@ -26,7 +26,7 @@ use Rattle.journal.proofs.Torn.{leaves_rest, record_leaves, record_reads, rest_i
 
 -- how many bytes commands take with their lengths
 pub sizes_of : (commands : List Command) → AllByRecursion IsFormed commands →
-    (4 * length commands ≤ length (concat (map counted_command commands))) × (length (concat (map counted_command commands)) ≤ 4305 * length commands)
+    (4 * length commands ≤ length (concat (map counted_command commands))) × (length (concat (map counted_command commands)) ≤ 4309 * length commands)
 sizes_of [] all = (omega arith, omega arith)
 sizes_of (command ∷ commands) all =
     let more = sizes_of commands all.1 in

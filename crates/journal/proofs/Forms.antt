@@ -42,10 +42,10 @@ module _ {A : Type 0} {IsForm : A → Type 0} {spelled : A → List ℕ} {read :
 
 pub counted_command_format : IsFormat IsFormed counted_command counted_command_at
 counted_command_format = told_format
-    (followed_format (passing_format (number_format wide_32) (λ size. nat_le size 4301)) (sized_format command_format) (λ command. length (wire command)) (λ size command is. is.1))
+    (followed_format (passing_format (number_format wide_32) (λ size. nat_le size 4305)) (sized_format command_format) (λ command. length (wire command)) (λ size command is. is.1))
     IsFormed counted_command
-    (λ command is. let within : length (wire command) ≤ 4301 = wire_within command (wire command) is in ((omega (arith, within), le-leb _ _ within), ((is.in_form, is.front, is.tag), refl)))
-    (λ command is are. record { in_form = is.1.0.0; front = is.1.0.1; tag = is.1.0.2; spelled = refl })
+    (λ command is. let within : length (wire command) ≤ 4305 = wire_within command (wire command) is in ((omega (arith, within), le-leb _ _ within), ((is.cut, (is.in_form, is.front, is.tag)), refl)))
+    (λ command is are. record { cut = is.1.0.0; in_form = is.1.0.1.0; front = is.1.0.1.1; tag = is.1.0.1.2; spelled = refl })
     (λ command. refl)
 
 -- ---- commits

@@ -11,3 +11,4 @@ mod Spans
 mod Starts
 mod Stays
 mod Torn
+mod Written

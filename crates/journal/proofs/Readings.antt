@@ -30,7 +30,7 @@ reads_sized (Err (stop.Disk step)) read size bytes told rest found is = tt
 reads_sized (Err stop.NoMemory) read size bytes told rest found is = tt
 
 -- the length of a command, and the command
-pub counted_command_is : (bytes rest : List ℕ) (size : ℕ) → number_at w32 bytes ≡ Some (size, rest) → size ≤ 4301 → counted_command_at bytes ≡ sized_at command_at size rest
+pub counted_command_is : (bytes rest : List ℕ) (size : ℕ) → number_at w32 bytes ≡ Some (size, rest) → size ≤ 4305 → counted_command_at bytes ≡ sized_at command_at size rest
 counted_command_is bytes rest size is small = rw (is, le-leb _ _ small) refl
 
 -- a reading that is refused refuses the whole

@@ -71,7 +71,7 @@ fn write_body(alloc: Global, end: &End, commit: &Commit) -> Result<Bytes, NoMemo
     ensures body { IfOk result (λ body. body ≡ commit_body commit.now) }
     ensures form { OnOk result (IsCommitForm commit.now) }
     ensures size { IfOk result (λ body. Takes commit.now 0 (length body)) }
-    ensures few { IfOk result (λ body. length body ≤ 282132485) }
+    ensures few { IfOk result (λ body. length body ≤ 282394629) }
     ensures near { OnOk result (end.now.gate < 2 ^ 62) }
     ensures place { OnOk result (MayStand end.now.is_fresh commit.now) }
 {

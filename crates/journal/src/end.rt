@@ -8,6 +8,6 @@ pub struct End {
     pub commands: u64,
     pub is_fresh: bool,
     ghost first: { IsTrue is_fresh → gate ≤ 38 },
-    ghost near: { gate ≤ 76 + 4315 * commands },
+    ghost near: { gate ≤ 76 + 4319 * commands },
     ghost many: { 4 * commands ≤ gate },
 }

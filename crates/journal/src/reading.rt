@@ -18,7 +18,7 @@ use outside::Disk;
 use std::alloc::Global;
 
 /// The most bytes that a command has.
-const MAX_COMMAND: u32 = 4301;
+const MAX_COMMAND: u32 = 4305;
 
 // The command whose bytes these are.
 fn read_whole(alloc: Global, bytes: &[u8]) -> Result<Command, Stop>
@@ -59,7 +59,7 @@ fn read_command<D: Disk>(alloc: Global, disk: &mut D, span: &mut Span) -> Result
     ensures form { IfOk result (λ command. IsFormed command) }
     ensures end { span.new.end ≡ span.old.end }
     ensures least { OnOk result (span.old.place + 4 ≤ span.new.place) }
-    ensures most { OnOk result (span.new.place ≤ span.old.place + 4305) }
+    ensures most { OnOk result (span.new.place ≤ span.old.place + 4309) }
     ensures disk { Looks D.tells D.content D.honest D.faults D.last_step disk.old disk.new result }
 {
     let size = read_u32(disk, span)?;
@@ -82,7 +82,7 @@ fn repeat_command<D: Disk>(
     ensures forms { IfOk result (λ commands. All IsFormed commands) }
     ensures end { span.new.end ≡ span.old.end }
     ensures least { IfOk result (λ commands. span.old.place + 4 * length commands ≤ span.new.place) }
-    ensures most { IfOk result (λ commands. span.new.place ≤ span.old.place + 4305 * length commands) }
+    ensures most { IfOk result (λ commands. span.new.place ≤ span.old.place + 4309 * length commands) }
     ensures disk { Looks D.tells D.content D.honest D.faults D.last_step disk.old disk.new result }
 {
     let mut commands = Commands::new(alloc);
@@ -113,7 +113,7 @@ fn read_commands<D: Disk>(alloc: Global, disk: &mut D, span: &mut Span) -> Resul
     ensures end { span.new.end ≡ span.old.end }
     ensures some { IfOk result (λ commands. 0 < length commands) }
     ensures least { IfOk result (λ commands. span.old.place + 4 + 4 * length commands ≤ span.new.place) }
-    ensures most { IfOk result (λ commands. span.new.place ≤ span.old.place + 4 + 4305 * length commands) }
+    ensures most { IfOk result (λ commands. span.new.place ≤ span.old.place + 4 + 4309 * length commands) }
     ensures disk { Looks D.tells D.content D.honest D.faults D.last_step disk.old disk.new result }
 {
     let count = read_count(disk, span)?;

@@ -14,7 +14,7 @@ sized_at read size = inside (bytes_at size) read
 
 -- a command with its length in four bytes, none longer than a command can be
 abbrev pub counted_command_at : Reading Command
-counted_command_at = followed (passing (λ size. nat_le size 4301) (number_at w32)) (sized_at command_at)
+counted_command_at = followed (passing (λ size. nat_le size 4305) (number_at w32)) (sized_at command_at)
 
 -- commands with their number in four bytes, at least one
 abbrev pub listed_commands_at : Reading (List Command)

@@ -14,6 +14,6 @@ invariant-loop g l = record {
   forms : All IsFormed l.commands;
   end : l.span.end ≡ l.initial.span.end;
   least : l.initial.span.place + 4 * length l.commands ≤ l.span.place;
-  most : l.span.place ≤ l.initial.span.place + 4305 * length l.commands;
+  most : l.span.place ≤ l.initial.span.place + 4309 * length l.commands;
   disk : Keeps g.D.Disk.tells g.D.Disk.content g.D.Disk.honest g.D.Disk.faults l.initial.disk l.disk;
 }
