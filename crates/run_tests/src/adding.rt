@@ -1,10 +1,11 @@
 //! Adding commands to a state, where what is held stands afterwards.
 
-ghost use Rattle.std.specs.Prelude.{◌↔◌, ℕ, List, [], ◌∷◌, ◌++◌, IsTrue};
+ghost use Rattle.std.specs.Prelude.{◌≡◌, ◌↔◌, ℕ, List, [], ◌∷◌, ◌++◌, IsTrue, Some};
 ghost use Rattle.std.specs.List.{Contains};
 ghost use Rattle.braid_run.specs.States.{IsStanding, MayFollow};
 ghost use Rattle.command.specs.Closed.{IsHeld};
-ghost use Rattle.command.specs.Kinds.{parents_of};
+ghost use Rattle.command.specs.Cuts.{cut_behind};
+ghost use Rattle.command.specs.Kinds.{carried, parents_of};
 ghost use Rattle.command.specs.Wire.{IsInForm};
 
 use base_bytes::{Id, NoMemory};
@@ -34,7 +35,14 @@ fn has_parents<G: Graph>(graph: &G, command: &Command) -> bool
     }
 }
 
-/// Whether the command, which isn't a finalize, may follow what the state holds.
+// No cut is stated, which is then no wrong one.
+fn states_no_cut<G: Graph>(_graph: &G, command: &Command) -> bool
+    ensures { IsTrue result → (stated : ℕ) → carried command.now ≡ Some stated → stated ≡ cut_behind (G.commands _graph.now) command.now }
+{
+    command.cut().is_none()
+}
+
+/// Whether the command of version 1, which isn't a finalize, may follow what the state holds.
 fn may_follow(state: &Tried, command: &Command) -> bool
     requires { IsInForm command.now }
     ensures { IsTrue result → MayFollow state.now.held.graph_id state.now.held.commands command.now }
@@ -45,6 +53,9 @@ fn may_follow(state: &Tried, command: &Command) -> bool
         return false;
     }
     if !has_parents(graph, command) {
+        return false;
+    }
+    if !states_no_cut(graph, command) {
         return false;
     }
     if graph.len() >= MAX_COMMANDS {
