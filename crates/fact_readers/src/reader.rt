@@ -24,21 +24,19 @@ pub type Seat<J> = Reader<Version<J>, (), Unruled>;
 /// A place with the copy that it reads.
 pub type Look<J> = Reading<Version<J>, (), Unruled>;
 
-/// Answers from what is published. Contracts see it as the commits that it has seen, and what it has learnt since.
+/// A seat with what its next read must see. It may go to another thread where both may: this holds of a struct that is
+/// generic in both, and no proof of it is found for one that names them.
 #[derive(Drop)]
-pub struct FactReader<J: Naming> {
-    seat: Seat<J>,
-    duty: Duty<J>,
+pub struct ReaderOf<T: Drop, D: Drop> {
+    seat: Reader<T, (), Unruled>,
+    duty: D,
 }
 
-impl<J: Naming> Model for FactReader<J> {
-    ghost use Rattle.std.specs.Coded.{codes};
-    ghost use Rattle.base_bytes.specs.contracts.value.Value as value;
-    ghost use Rattle.fact_readers.specs.Readers.{Reading};
+/// Answers from what is published. Contracts see it as the commits that it has seen, and what it has learnt since.
+pub type FactReader<J> = ReaderOf<Version<J>, Duty<J>>;
 
-    ghost Value = { Reading };
-
-    ghost coded = { Prim.hlevel (codes, value.the_row.coded) };
+impl<T: Drop, D: Drop> Model for ReaderOf<T, D> {
+    ghost Value = { D };
 
     ghost view = { λ r. r.duty };
 
@@ -113,11 +111,11 @@ fn first_in<J: Naming, R: Wait>(
     }
 }
 
-impl<J: Naming> FactReader<J> {
+impl<J: Naming> ReaderOf<Version<J>, Duty<J>> {
     pub(crate) fn new(seat: Seat<J>, front: Front<J>) -> FactReader<J>
         ensures { result ≡ seen_only front }
     {
-        FactReader {
+        ReaderOf {
             seat,
             duty: Duty::new(front),
         }
