@@ -1,4 +1,5 @@
 ghost use Rattle.std.specs.Prelude.{◌≡◌, false};
+ghost use denote.Param.Send.{IsSync};
 
 use crate::samples::{all_rows, commit, counting_row, counts, rows_after};
 use fact_readers::{FactReader, FactWriter, Naming, Opened, readers};
@@ -6,9 +7,8 @@ use std::alloc::Global;
 use std::marker::Brand;
 use std::process::Abort;
 use std::sync::Wait;
-use std::sync::atomic::{AtomicU32, Ordering};
 use std::test::*;
-use std::thread::{Threads, scope, scope_env};
+use std::thread::{Threads, join};
 
 /// How many commits the writer publishes, one by one.
 const COMMITS: u32 = 10_000;
@@ -70,35 +70,55 @@ fn read_on<J: Naming, R: Wait + Sync>(rt: &R, alloc: Global, reader: &mut FactRe
     wrong
 }
 
-/// Publishes all commits beside the readers, and says whether it did. It adds the answers that are wrong to `wrong`.
-fn write_beside<J: Naming + Send + Sync, R: Threads + Wait + Sync>(
+/// The readers one after the other: how many of their answers are wrong.
+fn read_each<J: Naming, R: Wait + Sync>(
     rt: &R,
     alloc: Global,
-    writer: &mut FactWriter<J>,
     readers: &mut [FactReader<J>],
-    wrong: &AtomicU32,
-) -> bool
-    requires { writer.old.told_last ≡ false }
+) -> u32 {
+    let mut wrong = 0u32;
+    for reader in readers {
+        wrong = wrong.saturating_add(read_on(rt, alloc, reader));
+    }
+    wrong
+}
+
+/// Two readers beside each other.
+fn two<J: Naming + Send + Sync, R: Threads + Wait + Sync>(
+    rt: &R,
+    alloc: Global,
+    readers: &mut [FactReader<J>],
+) -> u32
+    requires { IsSync R.row }
 {
-    scope(
-        scope_env(),
+    let (one, other) = readers.split_at_mut(readers.len() / 2);
+    let (one, other) = join(
         rt,
-        |scope| -> bool
-            requires { writer.old.told_last ≡ false }
-        {
-            for reader in readers {
-                if scope
-                    .spawn(move || {
-                        wrong.fetch_add(read_on(rt, alloc, reader), Ordering::SeqCst);
-                    })
-                    .is_err()
-                {
-                    return false;
-                }
-            }
-            write_all(rt, alloc, writer)
-        },
-    )
+        || read_each(rt, alloc, one),
+        || read_each(rt, alloc, other),
+    );
+    one.saturating_add(other)
+}
+
+/// Four readers beside each other.
+fn four<J: Naming + Send + Sync, R: Threads + Wait + Sync>(
+    rt: &R,
+    alloc: Global,
+    readers: &mut [FactReader<J>],
+) -> u32
+    requires { IsSync R.row }
+{
+    let (one, other) = readers.split_at_mut(readers.len() / 2);
+    let (one, other) = join(
+        rt,
+        || -> u32
+            requires { IsSync R.row }
+        { two(rt, alloc, one) },
+        || -> u32
+            requires { IsSync R.row }
+        { two(rt, alloc, other) },
+    );
+    one.saturating_add(other)
 }
 
 /// Four readers beside a writer, and a read of each after a `tell_last`.
@@ -107,12 +127,22 @@ fn watched<J: Naming + Send + Sync, R: Threads + Wait + Abort + Sync>(
     alloc: Global,
     opened: Opened,
 ) -> Result<(), Fail>
-    requires { opened ≡ J.book }
+    requires sync { IsSync R.row }
+    requires book { opened ≡ J.book }
 {
     let wanted = all_rows(alloc);
-    let wrong = AtomicU32::new(0);
     let (mut writer, mut all) = readers::<J, R>(rt, alloc, opened, 4)?;
-    let written = write_beside(rt, alloc, &mut writer, all.as_mut_slice(), &wrong);
+    let seats = all.as_mut_slice();
+    let there = &mut writer;
+    let (wrong, written) = join(
+        rt,
+        || -> u32
+            requires { IsSync R.row }
+        { four(rt, alloc, seats) },
+        || -> bool
+            requires { there.now.told_last ≡ false }
+        { write_all(rt, alloc, there) },
+    );
     let mut ended = 0u32;
     for mut reader in all {
         reader.learn(writer.tell_last());
@@ -123,7 +153,7 @@ fn watched<J: Naming + Send + Sync, R: Threads + Wait + Abort + Sync>(
     }
     writer.close(rt);
     assert!(rt; written);
-    assert_eq!(rt; wrong.load(Ordering::SeqCst), 0);
+    assert_eq!(rt; wrong, 0);
     assert_eq!(rt; ended, 4);
     Ok(())
 }
