@@ -1,0 +1,5 @@
+-- Lemmas.
+pub mod Fronts
+pub mod Adding
+pub mod Lessons
+pub mod Versions
