@@ -5,7 +5,7 @@ from typing import NamedTuple
 
 from .model import Model
 from .page import page
-from .picture import picture
+from .picture import NoPicture, picture
 from .policy import Policy
 from .program import STATUSES, Refused, run
 from .script import MOST_LINES, lines_of
@@ -75,6 +75,9 @@ def main(words, usage):
     except Refused as refused:
         print(f"show: {refused}", file=sys.stderr)
         return refused.status
+    except NoPicture as error:
+        print(f"show: {error}", file=sys.stderr)
+        return 2
     except OSError as error:
         print(f"show: {error}", file=sys.stderr)
         return 4

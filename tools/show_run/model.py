@@ -55,6 +55,8 @@ class Held:
     def __init__(self, policy):
         self.graph_texts, self.commands = [], []
         self.facts, self.braid, self.entries, self.effects = [], [], [], []
+        # The facts before the last line that changed something here.
+        self.facts_before = []
         # Of each entry the writes that it did.
         self.writes = []
         self.blocks = Blocks(policy)
@@ -142,11 +144,11 @@ class Model:
             if not row["column"] and row["parents"]:
                 row["column"] = self.commands[row["parents"][0]]["column"]
 
-    def called(self, number):
-        """A command in words, by its name, its arguments and its author."""
+    def called(self, number, author=True):
+        """A command in words, by its name, its arguments and maybe its author."""
         row = self.commands[number]
         fields = ", ".join(value for _, value in row["fields"] or [])
-        return f"{row['name']}({fields})" + (f" by {row['author']}" if row["author"] else "")
+        return f"{row['name']}({fields})" + (f" by {row['author']}" if author else "")
 
     # ---- lines
 
@@ -204,12 +206,23 @@ class Model:
         told_cut = words.numbers(own[0]).get("cut")
         if told_cut not in (None, cut):
             self.differs.append(line.number)
-        row["x"] = sorted({*row["x"], *self.turned(entries_before, held)})
+        row["q"] = list(self.turned(entries_before, held, line.replica))
+        row["x"] = sorted({*row["x"], *(outcome for _, outcome, _ in row["q"])})
+        held.facts_before = before
 
-    def turned(self, before, held):
-        """The outcomes that commands newly came to at this line, but for a pass."""
-        old = {self.entries.rows[it][:2] for it in before}
-        return {self.entries.rows[it][1] for it in held.entries if self.entries.rows[it][:2] not in old} & {"recalled", "void"}
+    def turned(self, before, held, replica):
+        """Which commands came to be recalled or void at this line: a title, the outcome and the number of why. Those of one author for one reason are told at once."""
+        old = {self.entries.rows[it][0]: self.entries.rows[it][1] for it in before}
+        groups = {}
+        for number in held.entries:
+            command, outcome, _, why = self.entries.rows[number]
+            if why is not None and old.get(command) != outcome:
+                groups.setdefault((self.commands[command]["author"], old.get(command), outcome, why), []).append(command)
+        for (author, was, outcome, why), commands in groups.items():
+            called = " and ".join(self.called(it, author=False) for it in commands)
+            one = len(commands) == 1
+            first = {None: "", "passed": " passed before, and"}.get(was, f" {'was' if one else 'were'} {was} before, and")
+            yield f"{called} by {author}{first} {'is' if one else 'are'} {'now ' if was else ''}{outcome} on {replica}.", outcome, why
 
     # ---- entries
 

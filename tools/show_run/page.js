@@ -2,7 +2,7 @@
 // The page has one run, or two beside each other. A run's data are tables (commands, facts, effects, entries, whys) and what each line changed.
 const ALL = JSON.parse(document.getElementById("data").textContent);
 const ROW = 22, STEP = 26, COLUMN = 30;
-const COLOURS = ["#fde725", "#90d743", "#35b779", "#21918c", "#31688e", "#443983"];
+const COLOURS = ["#fde725", "#90d743", "#35b779", "#1d7a80", "#31688e", "#443983"];
 const DARK_TEXT = "#1b1f24", LIGHT_TEXT = "#ffffff";
 
 const $ = (id) => document.getElementById(id);
@@ -75,7 +75,8 @@ const textOf = (run, command) => (command.kind !== "basic" ? "var(--text)" : run
 class Lanes {
   constructor(run) {
     this.run = run;
-    this.step = Math.max(30, Math.min(66, Math.floor(230 / Math.max(1, run.replicas.length))));
+    const room = innerWidth <= 820 ? 132 : 230;
+    this.step = Math.max(26, Math.min(66, Math.floor(room / Math.max(1, run.replicas.length))));
     this.left = run.lines.some((it) => it.k === "inject") ? 18 : 4;
     this.width = this.left + this.step * run.replicas.length + 4;
     this.makers = new Map();
@@ -229,7 +230,8 @@ class View {
     this.heads.forEach((it, replica) => {
       const state = states[replica];
       it.setAttribute("aria-checked", replica === this.replica);
-      it.querySelector("small").textContent = state ? `${state.commands.length}c ${state.facts.length}f` : "–";
+      const counts = state && [counted(state.commands.length, "command"), counted(state.facts.length, "fact")];
+      it.querySelector("small").innerHTML = !state ? "–" : this.lanes.step >= 60 ? counts.join("<br>") : `${state.commands.length}c ${state.facts.length}f`;
       it.setAttribute("aria-label", `replica ${this.run.replicas[replica]}: ${state ? `${counted(state.commands.length, "command")}, ${counted(state.facts.length, "fact")}` : "not declared yet"}`);
       it.title = it.getAttribute("aria-label");
     });
@@ -255,14 +257,7 @@ class View {
   }
   // The commands that came to another outcome at this line, and why.
   turned(at) {
-    const line = this.run.lines[at], state = line.d && this.run.states[at][line.r];
-    if (!state) return [];
-    const old = new Map(state.before.entries.map((it) => [this.run.entries[it][0], this.run.entries[it][1]]));
-    return state.entries.map((it) => this.run.entry(it)).filter((it) => it.why && old.get(it.command) !== it.outcome).map((it) => {
-      const was = old.get(it.command), by = this.run.commands[it.command].author;
-      const title = `${this.run.called(it.command)} by ${by} ${was ? `${was} before, and is now ${it.outcome}` : `is ${it.outcome}`} on ${this.run.replicas[line.r]}.`;
-      return `<div class="why ${it.outcome}"><p><strong>${esc(title)}</strong> ${it.why.map(ticks).join(" ")}</p></div>`;
-    });
+    return (this.run.lines[at].q || []).map(([title, outcome, why]) => `<div class="why ${outcome}"><p><strong>${esc(title)}</strong></p><p>${this.run.whys[why].map(ticks).join(" ")}</p></div>`);
   }
   chooser() {
     const buttons = this.run.replicas.map((it, at) => `<button role="radio" aria-checked="${at === this.replica}" data-replica="${at}">${esc(it)}</button>`).join("");
