@@ -32,8 +32,8 @@ class Run {
       }
       this.states.push(now);
     });
-    const priorities = [...new Set(this.commands.filter((it) => it.kind === "basic").map((it) => it.priority))].sort((a, b) => a - b);
-    this.colours = new Map(priorities.map((it, at) => [it, priorities.length === 1 ? 2 : Math.round((at * (COLOURS.length - 1)) / (priorities.length - 1))]));
+    const count = this.priorities.length;
+    this.colours = new Map(this.priorities.map((it, at) => [it, count === 1 ? 2 : Math.floor((at * (COLOURS.length - 1)) / (count - 1) + 0.5)]));
   }
   // A text with ids shortened: an author's to its name.
   pretty(text) {
@@ -382,7 +382,7 @@ class Page {
     $("follow").addEventListener("change", () => this.goTo(this.position));
     document.addEventListener("keydown", (event) => this.pressed(event));
     addEventListener("hashchange", () => this.goTo(this.asked(this.position)));
-    this.goTo(this.asked(all.first ?? this.opening()));
+    this.goTo(this.asked(all.first ?? this.opening()), all.name);
   }
   asked(otherwise) {
     const line = +location.hash.slice(1);
@@ -397,10 +397,12 @@ class Page {
     const run = this.views.indexOf(view), at = this.rows.findIndex((it) => it[run] >= line);
     return at < 0 ? this.rows.length - 1 : at;
   }
-  goTo(position) {
+  // Shows a position, with the replica of its line or the one that is named.
+  goTo(position, name) {
     this.position = Math.max(0, Math.min(this.rows.length - 1, position));
     const row = this.rows[this.position];
-    if ($("follow").checked) this.follow(row);
+    if (name) this.chooseName(name);
+    else if ($("follow").checked) this.follow(row);
     this.views.forEach((view, at) => view.show(row[at], this.views.length > 1 ? (name) => this.factsOf(1 - at, row, name) : null));
     $("slider").value = this.position + 1;
     const first = this.runs[0].lines[row[0]];

@@ -51,6 +51,7 @@ def run_data(model, count):
     data = {name: table[:length] for name, table, length in zip(TABLES, tables_of(model), lengths)}
     names = {it["name"] for it in data["commands"]}
     data["sources"] = {name: it["source"] for name, it in model.policy.of("command").items() if name in names}
+    data["priorities"] = model.policy.priorities()
     data["names"], data["replicas"], data["lines"] = model.names, model.replicas, model.lines[:count]
     return data
 
@@ -131,7 +132,7 @@ def beside(runs, data, everything):
     if found is None:
         return "At no line do the facts of a replica differ."
     position, name = found
-    everything["first"] = position
+    everything["first"], everything["name"] = position, name
     for it, line in zip(data, rows[position]):
         it["first"] = line
     return f"The facts differ first at line {rows[position][0] + 1} of {runs[0].script}, line {rows[position][1] + 1} of {runs[1].script}: those of {name}."

@@ -115,7 +115,7 @@ class GraphRows:
         self.rows = {it: row for row, it in enumerate(self.order)}
         authors = list(dict.fromkeys(model.commands[it]["column"] for it in held.commands))
         self.columns = [it for it in model.replicas if it in authors] + [it for it in authors if it not in model.replicas]
-        self.priorities = sorted({it["priority"] for it in model.commands if it["kind"] == "basic"})
+        self.priorities = model.policy.priorities()
         self.labels = RIGHT + COLUMN * len(self.columns) + 12
         self.height = 56 + ROW * len(self.order)
 

@@ -438,6 +438,12 @@ class Policy:
         self.structs.update({name: keys + values for name, (keys, values) in self.of("fact").items()})
         self.structs.update({name: it.get("fields", []) for name, it in self.of("command").items()})
 
+    def priorities(self):
+        """The priorities that basic commands declare, from the smallest."""
+        found = [it.get("attributes", {}) for it in self.of("command").values()]
+        basic = [it for it in found if it.get("init", ("literal", False))[1] is False and it.get("finalize", ("literal", False))[1] is False]
+        return sorted({it.get("priority", ("literal", 0))[1] for it in basic})
+
     def of(self, kind):
         return self.kinds.get(kind, {})
 
