@@ -16,4 +16,5 @@ returns g c =
       );
       later = c.act.ensures.later;
       cause = c.act.ensures.cause;
+      seals = c.act.ensures.seals;
     }

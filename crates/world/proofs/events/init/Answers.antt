@@ -16,4 +16,5 @@ returns g c =
       );
       later = c.init.ensures.later;
       cause = c.init.ensures.cause;
+      seals = c.init.ensures.seals;
     }
