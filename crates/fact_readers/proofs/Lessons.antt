@@ -1,9 +1,9 @@
 -- What a reader keeps of its lessons, and what a read that it allows sees.
-use Rattle.std.proofs.Common.{◌≡◌, ℕ, ◌≤◌, Bool, true, false, All, IsTrue, List, [], ◌∷◌, ◌++◌, length, min, max, refl, sym, le_trans, arith}
+use Rattle.std.proofs.Common.{ℕ, ◌≤◌, All, List, [], ◌∷◌, ◌++◌, length, sym, le_trans}
 use Rattle.std.proofs.lemmas.List.Elements.{All-nil, All-cons, All-head, All-tail, All-push}
 use mathlib.Core.List.{IsPrefix}
 use Rattle.fact_readers.specs.declared.change.RowChange.{RowChange}
-use Rattle.fact_readers.specs.Readers.{Heeds, Lesson, Reading, Sees, seen_only, taught}
+use Rattle.fact_readers.specs.Readers.{Heeds, Lesson, Sees}
 use Rattle.fact_readers.specs.working.Duties.{IsDuty, IsWithin}
 use Rattle.fact_readers.proofs.Fronts.{prefix_self, prefix_trans, prefix_whole}
 

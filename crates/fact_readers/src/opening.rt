@@ -33,8 +33,7 @@ where
     Ok(())
 }
 
-/// A writer without commits and so many readers that have seen none; or memory runs out.
-/// It waits for nobody: readers that were made before the refusal are in no read.
+/// A writer without commits and so many readers that have seen none; or memory runs out. It may wait.
 pub fn readers<J: Naming, R: Wait + Sync>(
     rt: &R,
     alloc: Global,

@@ -1,4 +1,4 @@
-use Rattle.std.proofs.Common.{◌≡◌, ◌≤◌, ◌++◌, replicate}
+use Rattle.std.proofs.Common.{◌≡◌, ◌++◌, replicate}
 use Rattle.fact_readers.specs.Readers.{seen_only}
 use Rattle.fact_readers.proofs.opening.seat.Given as goal
 

@@ -1,4 +1,4 @@
-use Rattle.std.proofs.Common.{rules, ◌≡◌, ◌≤◌, length, min, max, le_refl, arith, subst, List, IsTrue}
+use Rattle.std.proofs.Common.{rules, le_refl, subst, List}
 use mathlib.Core.List.{IsPrefix}
 use Rattle.fact_readers.specs.declared.change.RowChange.{RowChange}
 use Rattle.fact_readers.proofs.Lessons.{learns}
