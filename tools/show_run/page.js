@@ -60,7 +60,11 @@ class Run {
         for (; old[at] !== fact; at++) if (!kept.has(old[at])) rows.push([old[at], "gone"]);
         at++;
         rows.push([fact, ""]);
-      } else rows.push([fact, "came"]);
+      } else {
+        // What was taken away here stands before what came in its place.
+        for (; at < old.length && !kept.has(old[at]); at++) rows.push([old[at], "gone"]);
+        rows.push([fact, "came"]);
+      }
     }
     for (; at < old.length; at++) if (!kept.has(old[at])) rows.push([old[at], "gone"]);
     return rows;
@@ -76,7 +80,7 @@ class Lanes {
   constructor(run) {
     this.run = run;
     const room = innerWidth <= 820 ? 132 : 230;
-    this.step = Math.max(26, Math.min(66, Math.floor(room / Math.max(1, run.replicas.length))));
+    this.step = Math.max(26, Math.min(72, Math.floor(room / Math.max(1, run.replicas.length))));
     this.left = run.lines.some((it) => it.k === "inject") ? 18 : 4;
     this.width = this.left + this.step * run.replicas.length + 4;
     this.makers = new Map();
@@ -218,12 +222,9 @@ class View {
   }
   // Shows what stands after a line. `other` gives another run's facts by a replica's name.
   show(at, other) {
+    this.markLines(at);
     this.at = at;
     const states = this.run.states[at] || this.run.replicas.map(() => null);
-    this.items.forEach((it, row) => {
-      it.setAttribute("aria-selected", row === at);
-      it.classList.toggle("later", row > at);
-    });
     const veil = this.root.querySelector(".veil");
     veil.setAttribute("y", ROW * (at + 1));
     veil.setAttribute("height", Math.max(0, ROW * (this.run.lines.length - at - 1)));
@@ -235,16 +236,23 @@ class View {
       it.setAttribute("aria-label", `replica ${this.run.replicas[replica]}: ${state ? `${counted(state.commands.length, "command")}, ${counted(state.facts.length, "fact")}` : "not declared yet"}`);
       it.title = it.getAttribute("aria-label");
     });
-    const item = this.items[at];
-    if (item) this.keepInSight(item);
+    this.keepInSight(at);
     this.told.innerHTML = this.lineBox(at) + this.chooser() + `<div class="columns"><div>${this.graphBox(states)}${this.effectsBox(states)}</div><div class="facts">${this.factsBoxes(states, other)}</div></div>`;
     const first = this.told.querySelector(".graph li");
     if (first) first.tabIndex = 0;
     const fresh = this.told.querySelector(".graph li.new:last-of-type") || [...this.told.querySelectorAll(".graph li.new")].pop(), box = this.told.querySelector(".graph");
     if (box && fresh && fresh.offsetTop + STEP > box.clientHeight) box.scrollTop = fresh.offsetTop - box.clientHeight / 2;
   }
-  keepInSight(item) {
-    const top = item.offsetTop, view = this.script;
+  // Marks the chosen line and those after it. Only the lines between the last choice and this one change.
+  markLines(at) {
+    const was = this.at ?? -1;
+    for (let row = Math.min(was, at) + 1; row <= Math.max(was, at); row++) this.items[row].classList.toggle("later", row > at);
+    if (this.at === undefined) for (let row = at + 1; row < this.items.length; row++) this.items[row].classList.add("later");
+    if (this.items[was]) this.items[was].setAttribute("aria-selected", false);
+    if (this.items[at]) this.items[at].setAttribute("aria-selected", true);
+  }
+  keepInSight(at) {
+    const top = 46 + ROW * at, view = this.script;
     if (top < view.scrollTop + 50 || top + ROW * 3 > view.scrollTop + view.clientHeight) view.scrollTop = Math.max(0, top - view.clientHeight / 2);
   }
   lineBox(at) {
