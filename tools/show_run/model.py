@@ -304,7 +304,8 @@ class Model:
             return
         rule, top = self.graph.why_before(number, other, held.braid)
         author = self.commands[other]["author"]
-        apart = f"{author} made this command without having {self.commands[number]['name']}" if author else "This command was made without it"
+        name = self.commands[number]["name"]
+        apart = f"{author} made this command without having {'that one' if name == self.commands[other]['name'] else name}"
         through = f", and {self.called(top)} comes after it and before this one" if top is not None else ""
         yield f"{apart}, which yet stands before it in the braid{through}: {rule}."
 
