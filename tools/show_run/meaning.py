@@ -16,7 +16,11 @@ class Check(Exception):
 
 
 class Fault(Exception):
-    pass
+    """A fault of a kind of docs/POLICY.md, with the row that it is about where a write met it."""
+
+    def __init__(self, kind, wanted=None):
+        super().__init__(kind)
+        self.wanted = wanted
 
 
 class Returned(Exception):
@@ -107,13 +111,13 @@ class Blocks:
         return writes, effects
 
     def write(self, kind, fact, keys, old, values):
-        held = self.facts.get(fact, keys)
+        held, wanted = self.facts.get(fact, keys), Wanted(fact, keys, ())
         if kind == "create" and held is not None:
-            raise Fault("exists")
+            raise Fault("exists", wanted)
         if kind != "create" and held is None:
-            raise Fault("missing")
+            raise Fault("missing", wanted)
         if any(held[at] != it for at, it in old):
-            raise Fault("differs")
+            raise Fault("differs", wanted)
         return self.facts.put(fact, keys, values)
 
     def printed_facts(self):

@@ -264,7 +264,10 @@ class Model:
     def why(self, held, place, failed, outcome):
         """Why a command is recalled or void, in sentences."""
         if isinstance(failed, Fault):
-            yield f"Its policy block ends in a fault: {words.FAULTS.get(str(failed), str(failed))}. After a fault no recall block runs, and nothing counts."
+            yield f"Its policy block ends in a fault: {words.FAULTS.get(str(failed), str(failed))}."
+            if failed.wanted:
+                yield from self.read_of(held, place, failed.wanted)
+            yield "After a fault no recall block runs, and nothing counts."
             return
         condition = failed.condition
         text = condition.text if condition.text.startswith("check_unwrap") else f"check {condition.text}"
@@ -290,18 +293,19 @@ class Model:
         is_there = held.blocks.facts.matching(wanted, len(head[0]))
         found = self.last_write(held, place, wanted)
         if found is None:
-            yield f"It reads {fact}: {'it is there' if is_there else 'there is none'}."
+            yield f"{fact} {'is there' if is_there else 'is not there'}."
             return
         writer, did = found
         number, other = held.braid[writer], held.braid[place]
         called = f"{self.called(number)} (place {writer + 1})"
-        yield f"It reads {fact}: {'it is there' if is_there else 'there is none'}, since {called} {did} it."
+        yield f"{fact} {'is there' if is_there else 'is not there'}: {called} {did} it."
         if self.graph.is_ancestor(number, other):
             yield f"{self.commands[number]['name']} is an ancestor of this command."
             return
         rule, top = self.graph.why_before(number, other, held.braid)
         author = self.commands[other]["author"]
-        apart = f"{author} made this command without having {self.commands[number]['name']}" if author else "This command was made without it"
+        name = self.commands[number]["name"]
+        apart = f"{author} made this command without having {'that one' if name == self.commands[other]['name'] else name}"
         through = f", and {self.called(top)} comes after it and before this one" if top is not None else ""
         yield f"{apart}, which yet stands before it in the braid{through}: {rule}."
 

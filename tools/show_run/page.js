@@ -60,7 +60,11 @@ class Run {
         for (; old[at] !== fact; at++) if (!kept.has(old[at])) rows.push([old[at], "gone"]);
         at++;
         rows.push([fact, ""]);
-      } else rows.push([fact, "came"]);
+      } else {
+        // What was taken away here stands before what came in its place.
+        for (; at < old.length && !kept.has(old[at]); at++) rows.push([old[at], "gone"]);
+        rows.push([fact, "came"]);
+      }
     }
     for (; at < old.length; at++) if (!kept.has(old[at])) rows.push([old[at], "gone"]);
     return rows;
@@ -76,7 +80,7 @@ class Lanes {
   constructor(run) {
     this.run = run;
     const room = innerWidth <= 820 ? 132 : 230;
-    this.step = Math.max(26, Math.min(66, Math.floor(room / Math.max(1, run.replicas.length))));
+    this.step = Math.max(26, Math.min(72, Math.floor(room / Math.max(1, run.replicas.length))));
     this.left = run.lines.some((it) => it.k === "inject") ? 18 : 4;
     this.width = this.left + this.step * run.replicas.length + 4;
     this.makers = new Map();
@@ -171,7 +175,7 @@ class GraphRows {
   row(number, isNew) {
     const command = this.run.commands[number], entry = this.entries.get(number) || {};
     const chips = [["recalled", "void"].includes(entry.outcome) ? `<span class="chip ${entry.outcome}">${entry.outcome}</span>` : "", isNew ? '<span class="chip new">new</span>' : ""].join(" ");
-    const words = command.kind === "merge" ? "merge" : `<span class="name">${esc(this.run.called(number))}</span> <span class="dim">${command.kind === "finalize" ? "finalize: what stands up to here stays so" : this.rank(command)}</span>`;
+    const words = command.kind === "merge" ? "merge" : `<span class="name">${esc(this.run.called(number))}</span> <span class="dim">${command.kind === "finalize" ? "finalize: closed up to here" : this.rank(command)}</span>`;
     const kinds = [command.kind, entry.outcome, isNew ? "new" : ""].filter(Boolean).join(" ");
     return `<li role="option" tabindex="-1" aria-selected="false" data-command="${number}" class="${kinds}" style="padding-left:${this.width + 4}px" aria-label="${esc(this.label(number, isNew))}">${chips} ${words}</li>`;
   }
@@ -180,9 +184,11 @@ class GraphRows {
 // ---- a run on the page
 
 class View {
-  constructor(run, page) {
+  constructor(run, page, word) {
     this.run = run;
     this.page = page;
+    // The ids of its lines begin with this word.
+    this.word = word;
     this.replica = 0;
     this.root = document.createElement("section");
     this.root.className = "run" + (run.heading ? " named" : "");
@@ -191,9 +197,10 @@ class View {
     this.root.innerHTML = (run.heading ? `<h2>${esc(run.heading)}</h2>` : "") + `<div class="script" tabindex="-1">${this.sheet()}</div><div class="told"></div>`;
     this.told = this.root.querySelector(".told");
     this.script = this.root.querySelector(".script");
-    this.items = [...this.root.querySelectorAll(".lines li")];
+    this.list = this.root.querySelector(".lines");
+    this.items = [...this.list.children];
     this.heads = [...this.root.querySelectorAll(".lanes-head button")];
-    this.root.querySelector(".lines").addEventListener("click", (event) => {
+    this.list.addEventListener("click", (event) => {
       const item = event.target.closest("li");
       if (item) page.goTo(page.positionOf(this, this.items.indexOf(item)));
     });
@@ -210,41 +217,47 @@ class View {
     const rows = run.lines.map((line, at) => {
       const chips = (line.x || []).map((it) => `<span class="chip ${it}">${it}</span>`).join("");
       const kind = line.k ? "" : "comment", first = run.first === at ? '<span class="chip first">facts differ</span>' : "";
-      return `<li role="option" aria-selected="false" aria-label="line ${at + 1}: ${esc(line.t || "blank")}${line.x && line.x.length ? ", " + line.x.join(", ") : ""}"><span class="number">${at + 1}</span><span class="text ${kind}">${esc(line.t)}</span>${first}${chips}<span class="room" style="width:${lanes.width}px"></span></li>`;
+      return `<li role="option" id="${this.word}-${at + 1}" aria-selected="false" aria-label="line ${at + 1}: ${esc(line.t || "blank")}${line.x && line.x.length ? ", " + line.x.join(", ") : ""}"><span class="number">${at + 1}</span><span class="text ${kind}">${esc(line.t)}</span>${first}${chips}<span class="room" style="width:${lanes.width}px"></span></li>`;
     });
-    const heads = run.replicas.map((it, at) => `<button role="radio" aria-checked="false" data-replica="${at}" style="width:${lanes.step}px">${esc(it)}<small></small></button>`).join("");
-    const head = `<div class="lanes-head"><span class="over">script</span><span role="radiogroup" aria-label="replica" style="display:flex;width:${lanes.width}px;padding-left:${lanes.left}px">${heads}</span></div>`;
-    return `<div class="sheet">${head}<ol class="lines" role="listbox" aria-label="script">${rows.join("")}</ol>${lanes.svg()}</div>`;
+    const heads = run.replicas.map((it, at) => `<button aria-pressed="false" data-replica="${at}" style="width:${lanes.step}px">${esc(it)}<small></small></button>`).join("");
+    const head = `<div class="lanes-head"><span class="over">script</span><span role="group" aria-label="replica" style="display:flex;width:${lanes.width}px;padding-left:${lanes.left}px">${heads}</span></div>`;
+    return `<div class="sheet">${head}<ol class="lines" role="listbox" tabindex="0" aria-label="script">${rows.join("")}</ol>${lanes.svg()}</div>`;
   }
   // Shows what stands after a line. `other` gives another run's facts by a replica's name.
   show(at, other) {
+    this.markLines(at);
     this.at = at;
     const states = this.run.states[at] || this.run.replicas.map(() => null);
-    this.items.forEach((it, row) => {
-      it.setAttribute("aria-selected", row === at);
-      it.classList.toggle("later", row > at);
-    });
     const veil = this.root.querySelector(".veil");
     veil.setAttribute("y", ROW * (at + 1));
     veil.setAttribute("height", Math.max(0, ROW * (this.run.lines.length - at - 1)));
     this.heads.forEach((it, replica) => {
       const state = states[replica];
-      it.setAttribute("aria-checked", replica === this.replica);
+      it.setAttribute("aria-pressed", replica === this.replica);
       const counts = state && [counted(state.commands.length, "command"), counted(state.facts.length, "fact")];
       it.querySelector("small").innerHTML = !state ? "–" : this.lanes.step >= 60 ? counts.join("<br>") : `${state.commands.length}c ${state.facts.length}f`;
       it.setAttribute("aria-label", `replica ${this.run.replicas[replica]}: ${state ? `${counted(state.commands.length, "command")}, ${counted(state.facts.length, "fact")}` : "not declared yet"}`);
       it.title = it.getAttribute("aria-label");
     });
-    const item = this.items[at];
-    if (item) this.keepInSight(item);
+    this.keepInSight(at);
     this.told.innerHTML = this.lineBox(at) + this.chooser() + `<div class="columns"><div>${this.graphBox(states)}${this.effectsBox(states)}</div><div class="facts">${this.factsBoxes(states, other)}</div></div>`;
     const first = this.told.querySelector(".graph li");
     if (first) first.tabIndex = 0;
     const fresh = this.told.querySelector(".graph li.new:last-of-type") || [...this.told.querySelectorAll(".graph li.new")].pop(), box = this.told.querySelector(".graph");
     if (box && fresh && fresh.offsetTop + STEP > box.clientHeight) box.scrollTop = fresh.offsetTop - box.clientHeight / 2;
   }
-  keepInSight(item) {
-    const top = item.offsetTop, view = this.script;
+  // Marks the chosen line and those after it. Only the lines between the last choice and this one change.
+  markLines(at) {
+    const was = this.at ?? -1;
+    for (let row = Math.min(was, at) + 1; row <= Math.max(was, at); row++) this.items[row].classList.toggle("later", row > at);
+    if (this.at === undefined) for (let row = at + 1; row < this.items.length; row++) this.items[row].classList.add("later");
+    if (this.items[was]) this.items[was].setAttribute("aria-selected", false);
+    if (!this.items[at]) return;
+    this.items[at].setAttribute("aria-selected", true);
+    this.list.setAttribute("aria-activedescendant", this.items[at].id);
+  }
+  keepInSight(at) {
+    const top = 46 + ROW * at, view = this.script;
     if (top < view.scrollTop + 50 || top + ROW * 3 > view.scrollTop + view.clientHeight) view.scrollTop = Math.max(0, top - view.clientHeight / 2);
   }
   lineBox(at) {
@@ -260,8 +273,8 @@ class View {
     return (this.run.lines[at].q || []).map(([title, outcome, why]) => `<div class="why ${outcome}"><p><strong>${esc(title)}</strong></p><p>${this.run.whys[why].map(ticks).join(" ")}</p></div>`);
   }
   chooser() {
-    const buttons = this.run.replicas.map((it, at) => `<button role="radio" aria-checked="${at === this.replica}" data-replica="${at}">${esc(it)}</button>`).join("");
-    return `<div class="choose" role="radiogroup" aria-label="replica whose graph and effects are shown"><span class="dim">Replica:</span>${buttons}</div>`;
+    const buttons = this.run.replicas.map((it, at) => `<button aria-pressed="${at === this.replica}" data-replica="${at}">${esc(it)}</button>`).join("");
+    return `<div class="choose" role="group" aria-label="replica whose graph and effects are shown"><span class="dim">Replica:</span>${buttons}</div>`;
   }
   isNew(state) { return state && state.at === this.at; }
   graphBox(states) {
@@ -365,7 +378,7 @@ class Page {
     this.runs = all.runs.map((it) => new Run(it));
     // Each position as a line of each run.
     this.rows = all.rows || this.runs[0].lines.map((_, at) => [at]);
-    this.views = this.runs.map((it) => new View(it, this));
+    this.views = this.runs.map((it, at) => new View(it, this, at ? "other" : "line"));
     if (this.views.length > 1) document.body.classList.add("beside");
     $("runs").append(...this.views.map((it) => it.root));
     $("title").textContent = all.title;
@@ -382,7 +395,7 @@ class Page {
     $("follow").addEventListener("change", () => this.goTo(this.position));
     document.addEventListener("keydown", (event) => this.pressed(event));
     addEventListener("hashchange", () => this.goTo(this.asked(this.position)));
-    this.goTo(this.asked(all.first ?? this.opening()), all.name);
+    this.goTo(this.asked(all.first ?? this.opening()), location.hash ? null : all.name);
   }
   asked(otherwise) {
     const line = +location.hash.slice(1);
@@ -427,7 +440,7 @@ class Page {
     $("follow").checked = false;
     this.chooseName(name);
     this.goTo(this.position);
-    const chosen = document.querySelector('.choose [aria-checked="true"]');
+    const chosen = document.querySelector('.choose [aria-pressed="true"]');
     if (chosen) chosen.focus({ preventScroll: true });
   }
   goToMark(back) {
@@ -448,5 +461,5 @@ class Page {
   }
 }
 
-const HELP = `<dl><dt>← →, ↑ ↓</dt><dd>a line back, a line on</dd><dt>Home, End</dt><dd>the first line, the last</dd><dt>m, M</dt><dd>the next mark, the one before: a line at which something was refused, recalled or void</dd><dt>1 to 8</dt><dd>choose a replica</dd><dt>f</dt><dd>follow the line's replica, or not</dd><dt>↑ ↓ in the graph</dt><dd>from command to command</dd></dl><p><strong>Lanes:</strong> a filled circle is an action, an empty one a message, a cross a refusal. An arrow is a sync or a message, a dashed one a join. <em>9c 4f</em> says 9 commands and 4 facts.</p><p><strong>Recalled:</strong> a check fails where the command now stands in the order, so its recall block ran instead. <strong>Void:</strong> neither block passed, so nothing changes. <strong>Cut:</strong> entries of the run before that still stand at the front.</p>`;
+const HELP = `<dl><dt>← →, ↑ ↓</dt><dd>a line back, a line on</dd><dt>Home, End</dt><dd>the first line, the last</dd><dt>m, M</dt><dd>the next mark, the one before: a line at which something was refused, recalled or void</dd><dt>1 to 8</dt><dd>choose a replica</dd><dt>f</dt><dd>follow the line's replica, or not</dd><dt>↑ ↓ in the graph</dt><dd>from command to command</dd></dl><p><strong>Lanes:</strong> a filled circle is an action, an empty one a message, a cross a refusal. An arrow is a sync or a message, a dashed one a join. <em>9c 4f</em> says 9 commands and 4 facts.</p><p><strong>Facts:</strong> + was added by this line, − was taken away. Beside another run, a bar at the left marks a fact that is in this run alone.</p><p><strong>Recalled:</strong> a check fails where the command now stands in the order, so its recall block ran instead. <strong>Void:</strong> neither block passed, so nothing changes. <strong>Cut:</strong> entries of the run before that still stand at the front.</p>`;
 const page = new Page(ALL);

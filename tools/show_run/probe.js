@@ -40,12 +40,12 @@
   want(document.getElementById("position").textContent === `${last} of ${last}`, "the slider doesn't choose a line");
   press("m");
   press("End");
-  const unlabelled = [...document.querySelectorAll("button, input, [role=listbox], [role=radiogroup]")].filter((it) => !(it.getAttribute("aria-label") || it.textContent.trim() || it.closest("label")));
+  const unlabelled = [...document.querySelectorAll("button, input, [role=listbox], [role=group]")].filter((it) => !(it.getAttribute("aria-label") || it.textContent.trim() || it.closest("label")));
   want(!unlabelled.length, `without a label: ${unlabelled.map((it) => it.outerHTML.slice(0, 60))}`);
   for (const box of document.querySelectorAll(".run:first-child [data-facts]")) told.facts[box.dataset.facts] = [...box.querySelectorAll("li:not(.gone) [data-fact]")].map((it) => it.textContent);
   for (const name of texts(".run:first-child .choose button")) {
     [...document.querySelectorAll(".run:first-child .choose button")].find((it) => it.textContent === name).click();
-    want(document.querySelector('.run:first-child .choose [aria-checked="true"]').textContent === name, `${name} can't be chosen`);
+    want(document.querySelector('.run:first-child .choose [aria-pressed="true"]').textContent === name, `${name} can't be chosen`);
     const shown = [...document.querySelectorAll(".run:first-child [data-now] li")].filter((it) => it.querySelector("[data-effect]"));
     told.effects[name] = shown.map((it) => it.querySelector("[data-effect]").textContent + (it.querySelector(".chip") ? " recalled" : ""));
   }

@@ -4,6 +4,7 @@ import os
 import re
 import shutil
 import subprocess
+import sys
 import tempfile
 from typing import NamedTuple
 
@@ -64,15 +65,21 @@ def run(policy, lines, store):
         file = os.path.join(folder, "script")
         with open(file, "wb") as it:
             it.write("".join(f"{text}\n" for _, text in steps).encode("utf-8", "surrogateescape"))
-        ended = subprocess.run([program(), "run", policy, file, "--store", here], stdin=subprocess.DEVNULL, stdout=subprocess.PIPE)
+        status, texts = printed_lines([program(), "run", policy, file, "--store", here])
         commands = {}
         for journal in sorted(glob.glob(os.path.join(here, "replica-*.journal"))):
             with open(journal, "rb") as it:
                 commands.update((found.id, found) for found in commands_in(it.read()))
-    texts = split(ended.stdout)
-    if ended.returncode not in (0, 5, 6, 7, 10):
-        raise Refused(ended.returncode, refusal(ended.returncode, texts, steps))
-    return read(ended.returncode, grouped(texts), steps, commands)
+    if status not in (0, 5, 6, 7, 10):
+        raise Refused(status, refusal(status, texts, steps))
+    return read(status, grouped(texts), steps, commands)
+
+
+def printed_lines(words):
+    """A program's status and the lines that it prints. Most are printed again and again, and each is kept once."""
+    with subprocess.Popen(words, stdin=subprocess.DEVNULL, stdout=subprocess.PIPE) as process:
+        texts = [sys.intern(it.decode("utf-8", "replace").removesuffix("\n")) for it in process.stdout]
+    return process.returncode, texts
 
 
 def refusal(status, texts, steps):
