@@ -5,8 +5,8 @@ use Rattle.base_bytes.specs.Pieces.{counted}
 use Rattle.command.specs.Closed.{max_commands}
 use Rattle.command.specs.Wire.{IsInForm}
 use Rattle.command.specs.declared.command.Command.{Command}
-use Rattle.journal.specs.Commits.{IsCommitForm, MayStand, begins_with_init, commit_body}
-use Rattle.journal.specs.Outline.{Outline, outline_behind}
+use Rattle.journal.specs.Commits.{HasNumber, IsCommitForm, begins_with_init, body_bytes, written}
+use Rattle.journal.specs.Outline.{Outline, StandsAt, outline_behind}
 use Rattle.journal.specs.Ends.{outline_at}
 use Rattle.journal.specs.declared.commit.Commit.{Commit}
 use Rattle.journal.specs.declared.commit.Commit.TheVariants.{Graph, Commands}
@@ -57,10 +57,11 @@ CanAdd outline (Commands commands) = AreAddable outline commands
 pub record IsReadyFor (ready : Ready) (outline : Outline) (commit : Commit) : Type 0 where
   pub from : ready_from ready ≡ outline
   pub to : ready_to ready ≡ outline_behind outline commit
-  pub bytes : ready.bytes ≡ counted w32 (commit_body commit) ++ 0 ∷ []
+  pub bytes : ready.bytes ≡ counted w32 (body_bytes (written outline.commands commit)) ++ 0 ∷ []
   pub form : IsCommitForm commit
-  pub short : length (commit_body commit) < 2 ^ 32
-  pub place : MayStand outline.is_fresh commit
+  pub number : HasNumber (written outline.commands commit)
+  pub short : length (body_bytes (written outline.commands commit)) < 2 ^ 32
+  pub place : StandsAt outline (written outline.commands commit)
 
 -- the answer without the disk that a refusal hands back
 abbrev pub without_disk : {X D : Type 0} → Result X (OpenFault × D) → Result X OpenFault

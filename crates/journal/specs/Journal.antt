@@ -5,10 +5,11 @@ use Rattle.outside.specs.Causes.{Rose}
 use Rattle.outside.specs.Crashes.{MayLeave}
 use Rattle.outside.specs.Disk.{Content, at_rest}
 use Rattle.outside.specs.declared.faults.DiskStep.{DiskStep}
-use Rattle.journal.specs.Commits.{IsCommitForm, command_count, gated, has_none}
+use Rattle.journal.specs.Commits.{IsCommitForm, command_count, commits_of, has_none}
 use Rattle.std.specs.List.{AllByRecursion}
-use Rattle.journal.specs.Images.{ReadsAs, Splits, Holds, Damaged, OtherPolicy}
+use Rattle.journal.specs.Images.{ReadsAs, HoldsCommits, Splits, Holds, Damaged, OtherPolicy, ungated}
 use Rattle.journal.specs.Outline.{Outline, outline_of}
+use Rattle.journal.specs.declared.body.Body.{Body}
 use Rattle.journal.specs.declared.commit.Commit.{Commit}
 use Rattle.journal.specs.declared.fault.OpenFault.{OpenFault}
 use Rattle.journal.specs.declared.fault.OpenFault.TheVariants as fault
@@ -16,17 +17,19 @@ use Rattle.journal.specs.declared.fault.OpenFault.TheVariants as fault
 -- the disk holds these commits under the policy with this digest, with a closed gate behind the last, all of it is made sure of,
 -- and the journal's outline is theirs
 pub record IsSettled (content : Content) (outline : Outline) (digest : List ℕ) (commits : List Commit) : Type 0 where
-  pub outlined : outline ≡ outline_of commits
+  pub is_former : Bool
+  pub bodies : List Body
+  pub listed : commits_of bodies ≡ commits
+  pub outlined : outline ≡ outline_of is_former bodies
   pub gate : ℕ
   pub behind : List ℕ
   pub shut : gate ≢ 1
-  pub splits : Splits digest commits gate behind content.reads
+  pub splits : Splits is_former digest bodies gate behind content.reads
   pub rests : content.now ≡ at_rest content.reads
 
 -- the image reads as the commits before, or as those and this one, whole
 abbrev pub IsBeforeOrAfter : List ℕ → List Commit → Commit → List ℕ → Type 0
-IsBeforeOrAfter digest commits commit image =
-    ReadsAs digest image (Holds (gated commits)) ⊎ ReadsAs digest image (Holds (gated (commits ++ commit ∷ [])))
+IsBeforeOrAfter digest commits commit image = HoldsCommits digest image commits ⊎ HoldsCommits digest image (commits ++ commit ∷ [])
 
 -- the image could be left at entry, or reads as the commits that were read at entry
 abbrev pub WasOrReadsAlike : List ℕ → Content → List ℕ → Type 0
@@ -55,8 +58,8 @@ OpenFailsWith (Err fault.NoMemory) before now last = ⊤
 
 -- what is told of the commits that opening answered, and of the outline, over any disk
 pub record AreOf (outline : Outline) (items : List (ℕ × Commit)) : Type 0 where
-  pub commands : outline.commands ≡ command_count (map (λ item. item.1) items)
-  pub fresh : outline.is_fresh ≡ has_none (map (λ item. item.1) items)
+  pub commands : outline.commands ≡ command_count (ungated items)
+  pub fresh : outline.is_fresh ≡ has_none (ungated items)
   pub forms : AllByRecursion (λ item. IsCommitForm item.1) items
 
 -- the disk is honest where it was, its count doesn't fall, and a disk fault has its cause

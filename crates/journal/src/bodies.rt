@@ -3,15 +3,17 @@ ghost use Rattle.std.specs.Prelude.{◌≡◌, ◌<◌, ◌≤◌, ◌^◌, ◌+
 ghost use Rattle.std.specs.List.{concat};
 ghost use Rattle.command.specs.Wire.{IsFormed, IsInForm};
 ghost use Rattle.journal.specs.Calls.{CanAdd, IsReadyFor};
-ghost use Rattle.journal.specs.Commits.{IsCommitForm, MayStand, commit_body, counted_command};
+ghost use Rattle.journal.specs.Commits.{HasNumber, IsCommitForm, body_bytes, counted_command, written};
+ghost use Rattle.journal.specs.declared.body.Body.TheVariants as a_body;
 ghost use Rattle.journal.specs.declared.commit.Commit.{Commit as ACommit};
 ghost use Rattle.journal.specs.declared.commit.Commit.TheVariants as a_commit;
+ghost use Rattle.journal.specs.Outline.{StandsAt};
 ghost use Rattle.journal.specs.Ends.{outline_at};
 ghost use Rattle.journal.specs.working.Sizes.{Takes};
 
 use crate::commit::Commit;
 use crate::end::End;
-use crate::ends::end_behind;
+use crate::ends::end_with;
 use crate::ready::Ready;
 use base_bytes::{Bytes, Id, NoMemory};
 use command::{Command, Commands, to_bytes};
@@ -38,17 +40,19 @@ fn write_commands(alloc: Global, into: &mut Bytes, commands: &[Command]) -> Resu
     Ok(())
 }
 
-// The body of a list of commands.
-fn write_list(alloc: Global, commands: &Commands) -> Result<Bytes, NoMemory>
+// The body of a list of commands, behind so many.
+fn write_list(alloc: Global, held: u32, commands: &Commands) -> Result<Bytes, NoMemory>
     requires in_form { All IsInForm commands.now }
     requires some { 0 < length commands.now }
     requires few { length commands.now ≤ 65536 }
-    ensures body { IfOk result (λ body. body ≡ commit_body (a_commit.Commands commands.now)) }
+    ensures body { IfOk result (λ body. body ≡ body_bytes (a_body.Counted held commands.now)) }
     ensures form { OnOk result (IsCommitForm (a_commit.Commands commands.now)) }
-    ensures size { IfOk result (λ body. Takes (a_commit.Commands commands.now) 0 (length body)) }
+    ensures size { IfOk result (λ body. Takes (a_body.Counted held commands.now) 0 (length body)) }
+    ensures number { held < 2 ^ 32 }
 {
     let mut body = Bytes::new(alloc);
-    body.push(alloc, 1)?;
+    body.push(alloc, 2)?;
+    body.extend(alloc, &held.to_be_bytes())?;
     body.extend(alloc, &(commands.len() as u32).to_be_bytes())?;
     write_commands(alloc, &mut body, commands.as_slice())?;
     Ok(body)
@@ -56,7 +60,7 @@ fn write_list(alloc: Global, commands: &Commands) -> Result<Bytes, NoMemory>
 
 // The body of a graph's id.
 fn write_graph(alloc: Global, id: &Id) -> Result<Bytes, NoMemory>
-    ensures body { IfOk result (λ body. body ≡ commit_body (a_commit.Graph id.now)) }
+    ensures body { IfOk result (λ body. body ≡ body_bytes (a_body.Graph id.now)) }
     ensures size { length id.now ≡ 32 }
 {
     let bytes = id.as_slice();
@@ -68,16 +72,17 @@ fn write_graph(alloc: Global, id: &Id) -> Result<Bytes, NoMemory>
 
 fn write_body(alloc: Global, end: &End, commit: &Commit) -> Result<Bytes, NoMemory>
     requires { CanAdd (outline_at end.now) commit.now }
-    ensures body { IfOk result (λ body. body ≡ commit_body commit.now) }
+    ensures body { IfOk result (λ body. body ≡ body_bytes (written end.now.commands commit.now)) }
     ensures form { OnOk result (IsCommitForm commit.now) }
-    ensures size { IfOk result (λ body. Takes commit.now 0 (length body)) }
-    ensures few { IfOk result (λ body. length body ≤ 282394629) }
+    ensures number { OnOk result (HasNumber (written end.now.commands commit.now)) }
+    ensures size { IfOk result (λ body. Takes (written end.now.commands commit.now) 0 (length body)) }
+    ensures few { IfOk result (λ body. length body ≤ 282394633) }
     ensures near { OnOk result (end.now.gate < 2 ^ 62) }
-    ensures place { OnOk result (MayStand end.now.is_fresh commit.now) }
+    ensures place { OnOk result (StandsAt (outline_at end.now) (written end.now.commands commit.now)) }
 {
     match commit {
         Commit::Graph(id) => write_graph(alloc, id),
-        Commit::Commands(commands) => write_list(alloc, commands),
+        Commit::Commands(commands) => write_list(alloc, end.commands as u32, commands),
     }
 }
 
@@ -92,7 +97,7 @@ pub fn make_ready(alloc: Global, end: &End, commit: &Commit) -> Result<Ready, No
     bytes.extend(alloc, body.as_slice())?;
     bytes.push(alloc, 0)?;
     let place = end.gate + 5 + body.len() as u64;
-    let to = end_behind(end, commit, place);
+    let to = end_with(end, commit, place);
     Ok(Ready {
         bytes,
         from: *end,

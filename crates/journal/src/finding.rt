@@ -42,8 +42,8 @@ fn read_first_gate<D: Disk>(disk: &mut D, span: &mut Span) -> Result<bool, OpenF
     }
 }
 
-// The digest in the first record.
-fn read_digest<D: Disk>(disk: &mut D, span: &mut Span) -> Result<Id, OpenFault>
+// Whether the first record is of the former version, and the digest in it.
+fn read_digest<D: Disk>(disk: &mut D, span: &mut Span) -> Result<(bool, Id), OpenFault>
     requires within { IsTrue D.tells → span.old.end ≤ length (D.content disk.old).reads }
     ensures digest { IsTrue D.tells → ReadsFirst result (left (D.content disk.new).reads span.new) (left (D.content disk.old).reads span.old) }
     ensures end { span.new.end ≡ span.old.end }
@@ -52,7 +52,7 @@ fn read_digest<D: Disk>(disk: &mut D, span: &mut Span) -> Result<Id, OpenFault>
     ensures disk { OpenLooks D.tells D.content D.honest D.faults D.last_step disk.old disk.new result }
 {
     match read_first(disk, span) {
-        Ok(digest) => Ok(digest),
+        Ok(found) => Ok(found),
         Err(stop) => Err(first_fault(stop)),
     }
 }
@@ -71,11 +71,11 @@ fn find_records<D: Disk>(
     ensures found { IsTrue D.tells → Finds digest.now (1 ∷ left (D.content disk.old).reads span.old) result }
     ensures disk { OpenLooks D.tells D.content D.honest D.faults D.last_step disk.old disk.new result }
 {
-    let first = read_digest(disk, span)?;
+    let (is_former, first) = read_digest(disk, span)?;
     if first != *digest {
         return Err(OpenFault::OtherPolicy { digest: first });
     }
-    let (end, commits) = read_list(alloc, disk, span)?;
+    let (end, commits) = read_list(alloc, disk, span, is_former)?;
     Ok(Found::Held(end, commits))
 }
 

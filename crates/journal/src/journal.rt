@@ -2,8 +2,7 @@ ghost use Rattle.std.specs.Prelude.{◌≡◌, false, IsTrue, IfErr, IfOk, OnErr
 ghost use Rattle.outside.specs.Causes.{Rose};
 ghost use Rattle.outside.specs.Crashes.{LeavesOnly};
 ghost use Rattle.journal.specs.Calls.{CanAdd, IsReadyFor, disk_after, failed_after, journal_disk, journal_failed, journal_outline, ready_from, ready_to, reopened_outline, without_disk};
-ghost use Rattle.journal.specs.Commits.{gated};
-ghost use Rattle.journal.specs.Images.{IsBegun};
+ghost use Rattle.journal.specs.Images.{IsBegun, ungated};
 ghost use Rattle.journal.specs.Journal.{AreOf, IsBeforeOrAfter, IsSettled, Opens, OpenWrites, StaysSettled, WasOrReadsAlike};
 ghost use Rattle.journal.specs.declared.commit.Commit.{Commit as ACommit};
 
@@ -36,7 +35,7 @@ pub fn open_journal<D: Disk>(
 ) -> Result<(Journal<D>, Vec<(u64, Commit)>), (OpenFault, D)>
     ensures opens { IsTrue D.tells → Opens digest.now (D.content disk).reads (without_disk result) }
     ensures settled { IsTrue D.tells → IsTrue (D.honest disk) → IfOk result (λ found. (commits : List ACommit) ×
-        IsSettled (D.content (journal_disk found.0)) (journal_outline found.0) digest.now commits × (found.1.items ≡ gated commits)) }
+        IsSettled (D.content (journal_disk found.0)) (journal_outline found.0) digest.now commits × (ungated found.1.items ≡ commits)) }
     ensures any_moment { IsTrue D.tells → IsTrue (D.honest disk) →
         LeavesOnly (D.content disk) (D.content (disk_after result)) (WasOrReadsAlike digest.now (D.content disk)) }
     ensures begun { IsTrue D.tells → IsBegun (D.content disk).reads → (D.content (disk_after result)).reads ≡ (D.content disk).reads }
@@ -110,7 +109,7 @@ impl<D: Disk> Journal<D> {
     ) -> Result<(Reopened, Vec<(u64, Commit)>), OpenFault>
         ensures opens { IsTrue D.tells → Opens digest.now (D.content (journal_disk self.old)).reads result }
         ensures settled { IsTrue D.tells → IsTrue (D.honest (journal_disk self.old)) → IfOk result (λ found. (commits : List ACommit) ×
-            IsSettled (D.content (journal_disk self.new)) (reopened_outline found.0) digest.now commits × (found.1.items ≡ gated commits)) }
+            IsSettled (D.content (journal_disk self.new)) (reopened_outline found.0) digest.now commits × (ungated found.1.items ≡ commits)) }
         ensures any_moment { IsTrue D.tells → IsTrue (D.honest (journal_disk self.old)) →
             LeavesOnly (D.content (journal_disk self.old)) (D.content (journal_disk self.new)) (WasOrReadsAlike digest.now (D.content (journal_disk self.old))) }
         ensures begun { IsTrue D.tells → IsBegun (D.content (journal_disk self.old)).reads → (D.content (journal_disk self.new)).reads ≡ (D.content (journal_disk self.old)).reads }

@@ -1,8 +1,7 @@
 ghost use Rattle.std.specs.Prelude.{◌≡◌, ◌<◌, ℕ, List, length, slice_index};
 ghost use Rattle.outside.specs.Crashes.{MayLeave};
 ghost use Rattle.outside.specs.Disk.{Content};
-ghost use Rattle.journal.specs.Commits.{gated};
-ghost use Rattle.journal.specs.Images.{Reading, ReadsAs, Holds};
+ghost use Rattle.journal.specs.Images.{HoldsCommits, Reading, ReadsAs};
 ghost use Rattle.journal.specs.Journal.{IsSettled};
 ghost use Rattle.journal.specs.Outline.{Outline};
 ghost use Rattle.journal.specs.declared.commit.Commit.{Commit};
@@ -20,5 +19,5 @@ pub fn each_image_reads_as_something()
 /// What a crash leaves of a settled journal reads as its commits.
 pub fn settled_journals_survive()
     ensures { (content : Content) (outline : Outline) (digest : List ℕ) (commits : List Commit) → IsSettled content outline digest commits →
-        (image : List ℕ) → MayLeave content image → ReadsAs digest image (Holds (gated commits)) }
+        (image : List ℕ) → MayLeave content image → HoldsCommits digest image commits }
 {}

@@ -2,6 +2,7 @@
 #![tactic(auto)]
 
 mod bodies;
+mod body;
 mod commit;
 mod end;
 mod ends;

@@ -1,6 +1,7 @@
 // The commits of a journal behind its first record, gate by gate.
 ghost use Rattle.std.specs.Prelude.{◌≡◌, ◌+◌, ◌<◌, ◌≤◌, [], ◌∷◌, ◌++◌, IsTrue, IfErr, IfOk, IfSome, OnOk, length};
-ghost use Rattle.journal.specs.Commits.{IsCommitForm, MayStand};
+ghost use Rattle.journal.specs.Commits.{IsCommitForm, commit_of};
+ghost use Rattle.journal.specs.Outline.{StandsAt};
 ghost use Rattle.journal.specs.declared.fault.OpenFault.{OpenFault};
 ghost use Rattle.journal.specs.working.Opening.{OpenLooks, ReadsCommits, ReadsGate};
 ghost use Rattle.journal.specs.Journal.{AreOf};
@@ -8,6 +9,7 @@ ghost use Rattle.journal.specs.Ends.{outline_at};
 ghost use Rattle.journal.specs.working.Scanning.{left};
 ghost use Rattle.journal.specs.working.Sizes.{Takes};
 
+use crate::body::{Body, commit_of};
 use crate::commit::Commit;
 use crate::end::End;
 use crate::ends::{end_behind, first_end};
@@ -18,24 +20,24 @@ use crate::stop::Stop;
 use outside::Disk;
 use std::alloc::Global;
 
-// The commit at the next gate, or None where that is closed.
+// The body at the next gate, or None where that is closed.
 fn read_gate<D: Disk>(
     alloc: Global,
     disk: &mut D,
     span: &mut Span,
     end: &End,
-) -> Result<Option<Commit>, OpenFault>
+) -> Result<Option<Body>, OpenFault>
     requires within { IsTrue D.tells → span.old.end ≤ length (D.content disk.old).reads }
     requires more { span.old.place < span.old.end }
-    ensures next { IsTrue D.tells → ReadsGate end.now.is_fresh end.now.gate result (left (D.content disk.new).reads span.new) (left (D.content disk.old).reads span.old) }
+    ensures next { IsTrue D.tells → ReadsGate (outline_at end.now) result (left (D.content disk.new).reads span.new) (left (D.content disk.old).reads span.old) }
     ensures end { span.new.end ≡ span.old.end }
-    ensures form { IfOk result (λ found. IfSome found (λ commit. IsCommitForm commit)) }
-    ensures size { IfOk result (λ found. IfSome found (λ commit. Takes commit (span.old.place + 5) span.new.place)) }
-    ensures place { IfOk result (λ found. IfSome found (λ commit. MayStand end.now.is_fresh commit)) }
-    ensures more { IfOk result (λ found. IfSome found (λ commit. span.new.place < span.new.end)) }
+    ensures form { IfOk result (λ found. IfSome found (λ body. IsCommitForm (commit_of body))) }
+    ensures size { IfOk result (λ found. IfSome found (λ body. Takes body (span.old.place + 5) span.new.place)) }
+    ensures place { IfOk result (λ found. IfSome found (λ body. StandsAt (outline_at end.now) body)) }
+    ensures more { IfOk result (λ found. IfSome found (λ body. span.new.place < span.new.end)) }
     ensures disk { OpenLooks D.tells D.content D.honest D.faults D.last_step disk.old disk.new result }
 {
-    match read_next(alloc, disk, span, end.is_fresh) {
+    match read_next(alloc, disk, span, end) {
         Ok(found) => Ok(found),
         Err(Stop::Malformed) => Err(OpenFault::Damaged { offset: end.gate }),
         Err(Stop::Disk(step)) => Err(OpenFault::DiskFault(step)),
@@ -52,24 +54,26 @@ fn add(commits: &mut Vec<(u64, Commit)>, gate: u64, commit: Commit) -> Result<()
     Ok(())
 }
 
-/// The commits from the gate behind the first record on, each with its gate, and where they end.
+/// The commits from the gate behind the first record on, which is of the former version or not. Each stands with its gate, and
+/// beside them where they end.
 pub fn read_list<D: Disk>(
     alloc: Global,
     disk: &mut D,
     span: &mut Span,
+    is_former: bool,
 ) -> Result<(End, Vec<(u64, Commit)>), OpenFault>
     requires within { IsTrue D.tells → span.old.end ≤ length (D.content disk.old).reads }
     requires place { span.old.place ≡ 38 }
     requires more { span.old.place < span.old.end }
-    ensures commits { IsTrue D.tells → ReadsCommits result (left (D.content disk.old).reads span.old) }
+    ensures commits { IsTrue D.tells → ReadsCommits is_former result (left (D.content disk.old).reads span.old) }
     ensures listed { IfOk result (λ found. AreOf (outline_at found.0) found.1.items) }
     ensures disk { OpenLooks D.tells D.content D.honest D.faults D.last_step disk.old disk.new result }
 {
-    let mut end = first_end();
+    let mut end = first_end(is_former);
     let mut commits = Vec::new(alloc);
-    while let Some(commit) = read_gate(alloc, disk, span, &end)? {
-        let next = end_behind(&end, &commit, span.place);
-        add(&mut commits, end.gate, commit)?;
+    while let Some(body) = read_gate(alloc, disk, span, &end)? {
+        let next = end_behind(&end, &body, span.place);
+        add(&mut commits, end.gate, commit_of(body))?;
         end = next;
     }
     Ok((end, commits))

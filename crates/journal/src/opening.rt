@@ -1,9 +1,8 @@
 // A journal is opened: what the disk holds is read, or a journal is begun.
 ghost use Rattle.std.specs.Prelude.{◌≡◌, [], IsTrue, IfOk, IfErr, IsOk, IsErr, List};
 ghost use Rattle.outside.specs.Crashes.{LeavesOnly};
-ghost use Rattle.journal.specs.Commits.{gated};
 ghost use Rattle.journal.specs.declared.commit.Commit.{Commit};
-ghost use Rattle.journal.specs.Images.{IsBegun};
+ghost use Rattle.journal.specs.Images.{IsBegun, ungated};
 ghost use Rattle.journal.specs.Journal.{AreOf, IsSettled, Opens, OpenWrites, StaysSettled, WasOrReadsAlike};
 ghost use Rattle.journal.specs.Outline.{outline_of};
 ghost use Rattle.journal.specs.declared.fault.OpenFault.{OpenFault};
@@ -25,11 +24,11 @@ fn begun(
     alloc: Global,
     started: Result<(), DiskStep>,
 ) -> Result<(End, Vec<(u64, Commit)>), OpenFault>
-    ensures ok { IfOk result (λ found. IsOk started × (outline_at found.0 ≡ outline_of []) × (found.1.items ≡ [])) }
+    ensures ok { IfOk result (λ found. IsOk started × (outline_at found.0 ≡ outline_of false []) × (found.1.items ≡ [])) }
     ensures err { IfErr result (λ error. IfErr started (λ step. error ≡ OpenFault.DiskFault step) × IsErr started) }
 {
     match started {
-        Ok(()) => Ok((first_end(), Vec::new(alloc))),
+        Ok(()) => Ok((first_end(false), Vec::new(alloc))),
         Err(step) => Err(OpenFault::DiskFault(step)),
     }
 }
@@ -43,7 +42,7 @@ pub fn recover<D: Disk>(
     ensures listed { IfOk result (λ found. AreOf (outline_at found.0) found.1.items) }
     ensures opens { IsTrue D.tells → Opens digest.now (D.content disk.old).reads result }
     ensures settled { IsTrue D.tells → IsTrue (D.honest disk.old) → IfOk result (λ found. (commits : List Commit) ×
-        IsSettled (D.content disk.new) (outline_at found.0) digest.now commits × (found.1.items ≡ gated commits)) }
+        IsSettled (D.content disk.new) (outline_at found.0) digest.now commits × (ungated found.1.items ≡ commits)) }
     ensures any_moment { IsTrue D.tells → IsTrue (D.honest disk.old) →
         LeavesOnly (D.content disk.old) (D.content disk.new) (WasOrReadsAlike digest.now (D.content disk.old)) }
     ensures begun { IsTrue D.tells → IsBegun (D.content disk.old).reads → (D.content disk.new).reads ≡ (D.content disk.old).reads }

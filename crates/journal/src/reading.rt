@@ -1,15 +1,15 @@
 // Commits as they stand on a disk, read one behind the other.
 ghost use Rattle.std.specs.Prelude.{All, ◌≡◌, ◌+◌, ◌*◌, ◌<◌, ◌≤◌, IsTrue, IfOk, OnOk, length, nat_le, replicate};
 ghost use Rattle.std.specs.Int.{w32};
-ghost use Rattle.base_bytes.specs.Reading.{in_order, listed_at, number_at, passing};
+ghost use Rattle.base_bytes.specs.Reading.{in_order, listed_at, number_at, pair, passing};
 ghost use Rattle.command.specs.Reading.{command_at};
-ghost use Rattle.journal.specs.working.Reading.{commit_at, counted_command_at, listed_commands_at, sized_at};
+ghost use Rattle.journal.specs.working.Reading.{body_at, counted_command_at, listed_commands_at, sized_at};
 ghost use Rattle.journal.specs.working.Sizes.{Takes};
 ghost use Rattle.journal.specs.working.Scanning.{FailsNever, Looks, Reads, ReadsAll, left};
 ghost use Rattle.command.specs.Wire.{IsFormed};
-ghost use Rattle.journal.specs.Commits.{IsCommitForm};
+ghost use Rattle.journal.specs.Commits.{IsCommitForm, commit_of};
 
-use crate::commit::Commit;
+use crate::body::Body;
 use crate::pieces::{read_id, read_piece, read_u8, read_u32};
 use crate::span::Span;
 use crate::stop::Stop;
@@ -124,19 +124,44 @@ fn read_commands<D: Disk>(alloc: Global, disk: &mut D, span: &mut Span) -> Resul
     Ok(commands)
 }
 
-/// The body of a commit.
-pub fn read_commit<D: Disk>(alloc: Global, disk: &mut D, span: &mut Span) -> Result<Commit, Stop>
+// A number, and commands behind it.
+fn read_counted<D: Disk>(
+    alloc: Global,
+    disk: &mut D,
+    span: &mut Span,
+) -> Result<(u32, Commands), Stop>
     requires within { IsTrue D.tells → span.old.end ≤ length (D.content disk.old).reads }
-    ensures read { IsTrue D.tells → Reads (λ commit. commit) result (left (D.content disk.new).reads span.new)
-        (commit_at (left (D.content disk.old).reads span.old)) }
-    ensures form { IfOk result (λ commit. IsCommitForm commit) }
+    ensures read { IsTrue D.tells → Reads (λ found. found) result (left (D.content disk.new).reads span.new)
+        (pair (number_at w32) listed_commands_at (left (D.content disk.old).reads span.old)) }
+    ensures forms { IfOk result (λ found. All IsFormed found.1) }
     ensures end { span.new.end ≡ span.old.end }
-    ensures size { IfOk result (λ commit. Takes commit span.old.place span.new.place) }
+    ensures some { IfOk result (λ found. 0 < length found.1) }
+    ensures least { IfOk result (λ found. span.old.place + 8 + 4 * length found.1 ≤ span.new.place) }
+    ensures most { IfOk result (λ found. span.new.place ≤ span.old.place + 8 + 4309 * length found.1) }
+    ensures disk { Looks D.tells D.content D.honest D.faults D.last_step disk.old disk.new result }
+{
+    let held = read_u32(disk, span)?;
+    let commands = read_commands(alloc, disk, span)?;
+    Ok((held, commands))
+}
+
+/// A body, as it stands in front.
+pub fn read_body<D: Disk>(alloc: Global, disk: &mut D, span: &mut Span) -> Result<Body, Stop>
+    requires within { IsTrue D.tells → span.old.end ≤ length (D.content disk.old).reads }
+    ensures read { IsTrue D.tells → Reads (λ body. body) result (left (D.content disk.new).reads span.new)
+        (body_at (left (D.content disk.old).reads span.old)) }
+    ensures form { IfOk result (λ body. IsCommitForm (commit_of body)) }
+    ensures end { span.new.end ≡ span.old.end }
+    ensures size { IfOk result (λ body. Takes body span.old.place span.new.place) }
     ensures disk { Looks D.tells D.content D.honest D.faults D.last_step disk.old disk.new result }
 {
     match read_u8(disk, span)? {
-        0 => Ok(Commit::Graph(read_id(disk, span)?)),
-        1 => Ok(Commit::Commands(read_commands(alloc, disk, span)?)),
+        0 => Ok(Body::Graph(read_id(disk, span)?)),
+        1 => Ok(Body::Former(read_commands(alloc, disk, span)?)),
+        2 => {
+            let (held, commands) = read_counted(alloc, disk, span)?;
+            Ok(Body::Counted(held, commands))
+        }
         _ => Err(Stop::Malformed),
     }
 }

@@ -2,22 +2,25 @@
 ghost use Rattle.std.specs.Prelude.{◌≡◌, ◌+◌, ◌<◌, ◌≤◌, IsTrue, IfOk, OnOk, length};
 ghost use Rattle.std.specs.Int.{w32};
 ghost use Rattle.base_bytes.specs.Reading.{counted_at};
-ghost use Rattle.journal.specs.Commits.{IsCommitForm};
-ghost use Rattle.journal.specs.working.Reading.{commit_at, leaving, policy_at, record_at};
+ghost use Rattle.journal.specs.Commits.{IsCommitForm, commit_of};
+ghost use Rattle.journal.specs.working.Reading.{body_at, leaving, policy_at, record_at};
 ghost use Rattle.journal.specs.working.Sizes.{Takes};
 ghost use Rattle.journal.specs.working.Scanning.{Looks, Reads, ReadsAll, left};
 
-use crate::commit::Commit;
+use crate::body::Body;
 use crate::pieces::{read_id, read_u8, read_u32};
-use crate::reading::read_commit;
+use crate::reading::read_body;
 use crate::span::Span;
 use crate::stop::Stop;
 use base_bytes::Id;
 use outside::Disk;
 use std::alloc::Global;
 
+/// What the first record's body begins with in a journal of the former version.
+const FORMER: u8 = 1;
+
 /// What the first record's body begins with.
-pub const POLICY: u8 = 1;
+pub const POLICY: u8 = 2;
 
 // The next body, which has its length in four bytes before it and a byte behind it. The span then stands at that byte.
 fn open_body<D: Disk>(disk: &mut D, span: &mut Span) -> Result<Span, Stop>
@@ -42,70 +45,71 @@ fn open_body<D: Disk>(disk: &mut D, span: &mut Span) -> Result<Span, Stop>
     Ok(body)
 }
 
-// The commit that is all of the body.
-fn read_body<D: Disk>(alloc: Global, disk: &mut D, body: Span) -> Result<Commit, Stop>
+// The body that is all of these bytes.
+fn read_whole_body<D: Disk>(alloc: Global, disk: &mut D, body: Span) -> Result<Body, Stop>
     requires within { IsTrue D.tells → body.end ≤ length (D.content disk.old).reads }
-    ensures read { IsTrue D.tells → ReadsAll result (commit_at (left (D.content disk.old).reads body)) }
-    ensures form { IfOk result (λ commit. IsCommitForm commit) }
-    ensures size { IfOk result (λ commit. Takes commit body.place body.end) }
+    ensures read { IsTrue D.tells → ReadsAll result (body_at (left (D.content disk.old).reads body)) }
+    ensures form { IfOk result (λ found. IsCommitForm (commit_of found)) }
+    ensures size { IfOk result (λ found. Takes found body.place body.end) }
     ensures disk { Looks D.tells D.content D.honest D.faults D.last_step disk.old disk.new result }
 {
     let mut rest = body;
-    let commit = read_commit(alloc, disk, &mut rest)?;
+    let found = read_body(alloc, disk, &mut rest)?;
     if rest.place != rest.end {
         return Err(Stop::Malformed);
     }
-    Ok(commit)
+    Ok(found)
 }
 
-// The digest of a policy that is all of the body.
-fn read_policy_body<D: Disk>(disk: &mut D, body: Span) -> Result<Id, Stop>
+// Whether the version is the former one, and the digest of a policy, which are all of the body.
+fn read_policy_body<D: Disk>(disk: &mut D, body: Span) -> Result<(bool, Id), Stop>
     requires within { IsTrue D.tells → body.end ≤ length (D.content disk.old).reads }
     ensures read { IsTrue D.tells → ReadsAll result (policy_at (left (D.content disk.old).reads body)) }
     ensures size { OnOk result (body.end ≡ body.place + 33) }
     ensures disk { Looks D.tells D.content D.honest D.faults D.last_step disk.old disk.new result }
 {
     let mut rest = body;
-    let digest = read_policy(disk, &mut rest)?;
+    let found = read_policy(disk, &mut rest)?;
     if rest.place != rest.end {
         return Err(Stop::Malformed);
     }
-    Ok(digest)
+    Ok(found)
 }
 
-fn read_policy<D: Disk>(disk: &mut D, span: &mut Span) -> Result<Id, Stop>
+fn read_policy<D: Disk>(disk: &mut D, span: &mut Span) -> Result<(bool, Id), Stop>
     requires within { IsTrue D.tells → span.old.end ≤ length (D.content disk.old).reads }
-    ensures read { IsTrue D.tells → Reads (λ digest. digest) result (left (D.content disk.new).reads span.new)
+    ensures read { IsTrue D.tells → Reads (λ found. found) result (left (D.content disk.new).reads span.new)
         (policy_at (left (D.content disk.old).reads span.old)) }
     ensures end { span.new.end ≡ span.old.end }
     ensures place { OnOk result (span.new.place ≡ span.old.place + 33) }
     ensures disk { Looks D.tells D.content D.honest D.faults D.last_step disk.old disk.new result }
 {
-    if read_u8(disk, span)? != POLICY {
-        return Err(Stop::Malformed);
+    match read_u8(disk, span)? {
+        FORMER => Ok((true, read_id(disk, span)?)),
+        POLICY => Ok((false, read_id(disk, span)?)),
+        _ => Err(Stop::Malformed),
     }
-    read_id(disk, span)
 }
 
-/// The record of a commit behind its gate. The span then stands at the next gate, which is there.
-pub fn read_record<D: Disk>(alloc: Global, disk: &mut D, span: &mut Span) -> Result<Commit, Stop>
+/// The record of a body behind its gate. The span then stands at the next gate, which is there.
+pub fn read_record<D: Disk>(alloc: Global, disk: &mut D, span: &mut Span) -> Result<Body, Stop>
     requires within { IsTrue D.tells → span.old.end ≤ length (D.content disk.old).reads }
-    ensures read { IsTrue D.tells → Reads (λ commit. commit) result (left (D.content disk.new).reads span.new)
-        (record_at commit_at (left (D.content disk.old).reads span.old)) }
+    ensures read { IsTrue D.tells → Reads (λ found. found) result (left (D.content disk.new).reads span.new)
+        (record_at body_at (left (D.content disk.old).reads span.old)) }
     ensures end { span.new.end ≡ span.old.end }
-    ensures form { IfOk result (λ commit. IsCommitForm commit) }
-    ensures size { IfOk result (λ commit. Takes commit (span.old.place + 4) span.new.place) }
+    ensures form { IfOk result (λ found. IsCommitForm (commit_of found)) }
+    ensures size { IfOk result (λ found. Takes found (span.old.place + 4) span.new.place) }
     ensures more { OnOk result (span.new.place < span.new.end) }
     ensures disk { Looks D.tells D.content D.honest D.faults D.last_step disk.old disk.new result }
 {
     let body = open_body(disk, span)?;
-    read_body(alloc, disk, body)
+    read_whole_body(alloc, disk, body)
 }
 
-/// The first record behind its gate: the digest of the journal's policy.
-pub fn read_first<D: Disk>(disk: &mut D, span: &mut Span) -> Result<Id, Stop>
+/// The first record behind its gate: whether it is of the former version, and the digest of the journal's policy.
+pub fn read_first<D: Disk>(disk: &mut D, span: &mut Span) -> Result<(bool, Id), Stop>
     requires within { IsTrue D.tells → span.old.end ≤ length (D.content disk.old).reads }
-    ensures read { IsTrue D.tells → Reads (λ digest. digest) result (left (D.content disk.new).reads span.new)
+    ensures read { IsTrue D.tells → Reads (λ found. found) result (left (D.content disk.new).reads span.new)
         (record_at policy_at (left (D.content disk.old).reads span.old)) }
     ensures end { span.new.end ≡ span.old.end }
     ensures place { OnOk result (span.new.place ≡ span.old.place + 37) }

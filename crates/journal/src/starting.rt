@@ -20,7 +20,7 @@ const CLOSED: u8 = 0;
 
 // The first record without its gate, and the closed gate behind it.
 fn policy_record(digest: &Id) -> [u8; 38]
-    ensures bytes { result ≡ counted w32 (policy_body digest.now) ++ 0 ∷ [] }
+    ensures bytes { result ≡ counted w32 (policy_body false digest.now) ++ 0 ∷ [] }
     ensures size { length digest.now ≡ 32 }
 {
     let mut bytes = [0; 38];
@@ -35,7 +35,7 @@ pub fn start_short<D: Disk>(disk: &mut D, digest: &Id) -> Result<(), DiskStep>
     ensures any_moment { IsTrue D.tells → IsTrue (D.honest disk.old) → (entry : Content) → StartsOn true digest.now entry (D.content disk.old) →
         LeavesOnly entry (D.content disk.new) (WasOrReadsAlike digest.now entry) }
     ensures settled { IsTrue D.tells → IsTrue (D.honest disk.old) → (entry : Content) → StartsOn true digest.now entry (D.content disk.old) →
-        OnOk result (IsSettled (D.content disk.new) (outline_of []) digest.now []) }
+        OnOk result (IsSettled (D.content disk.new) (outline_of false []) digest.now []) }
     ensures disk { Writes D.honest D.faults D.last_step disk.old disk.new result }
 {
     let record = policy_record(digest);
@@ -49,7 +49,7 @@ pub fn start_fresh<D: Disk>(disk: &mut D, digest: &Id) -> Result<(), DiskStep>
     ensures any_moment { IsTrue D.tells → IsTrue (D.honest disk.old) → (entry : Content) → StartsOn false digest.now entry (D.content disk.old) →
         LeavesOnly entry (D.content disk.new) (WasOrReadsAlike digest.now entry) }
     ensures settled { IsTrue D.tells → IsTrue (D.honest disk.old) → (entry : Content) → StartsOn false digest.now entry (D.content disk.old) →
-        OnOk result (IsSettled (D.content disk.new) (outline_of []) digest.now []) }
+        OnOk result (IsSettled (D.content disk.new) (outline_of false []) digest.now []) }
     ensures disk { Writes D.honest D.faults D.last_step disk.old disk.new result }
 {
     let record = policy_record(digest);

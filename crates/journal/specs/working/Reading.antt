@@ -1,12 +1,12 @@
 -- How records are read. What their form is stands in Commits; the laws in proofs/ say that the two agree.
-use Rattle.std.specs.Prelude.{ℕ, zero, suc, ◌==◌, nat_le, nat_lt, List, length, if◌then◌else◌, None, Some}
+use Rattle.std.specs.Prelude.{ℕ, zero, suc, ◌==◌, nat_le, nat_lt, Bool, true, false, List, length, if◌then◌else◌, None, Some}
 use Rattle.std.specs.Int.{w8, w32}
 use Rattle.std.specs.Option.{option_and_then}
-use Rattle.base_bytes.specs.Reading.{Reading, behind, bytes_at, followed, inside, listed_at, made, number_at, passing}
+use Rattle.base_bytes.specs.Reading.{Reading, bytes_at, followed, inside, listed_at, made, number_at, pair, passing}
 use Rattle.command.specs.Reading.{command_at}
 use Rattle.command.specs.declared.command.Command.{Command}
-use Rattle.journal.specs.declared.commit.Commit.{Commit}
-use Rattle.journal.specs.declared.commit.Commit.TheVariants.{Graph, Commands}
+use Rattle.journal.specs.declared.body.Body.{Body}
+use Rattle.journal.specs.declared.body.Body.TheVariants.{Graph, Former, Counted}
 
 -- so many bytes that are one value whole
 abbrev pub sized_at : {A : Type 0} → Reading A → ℕ → Reading A
@@ -21,18 +21,26 @@ abbrev pub listed_commands_at : Reading (List Command)
 listed_commands_at = passing (λ commands. nat_lt 0 (length commands)) (listed_at w32 4294967295 counted_command_at)
 
 -- behind the byte of the kind
-abbrev pub kind_at : ℕ → Reading Commit
+abbrev pub kind_at : ℕ → Reading Body
 kind_at zero = made Graph (bytes_at 32)
-kind_at (suc zero) = made Commands listed_commands_at
-kind_at (suc (suc kind)) = λ bytes. None
+kind_at (suc zero) = made Former listed_commands_at
+kind_at (suc (suc zero)) = made (λ p. Counted p.0 p.1) (pair (number_at w32) listed_commands_at)
+kind_at (suc (suc (suc kind))) = λ bytes. None
 
--- the body of a commit
-abbrev pub commit_at : Reading Commit
-commit_at = followed (number_at w8) kind_at
+-- a body
+abbrev pub body_at : Reading Body
+body_at = followed (number_at w8) kind_at
+
+-- behind the byte of the version: whether it is the former one, and the digest
+abbrev pub version_at : ℕ → Reading (Bool × List ℕ)
+version_at zero = λ bytes. None
+version_at (suc zero) = made (λ digest. (true, digest)) (bytes_at 32)
+version_at (suc (suc zero)) = made (λ digest. (false, digest)) (bytes_at 32)
+version_at (suc (suc (suc version))) = λ bytes. None
 
 -- the body of the first record
-abbrev pub policy_at : Reading (List ℕ)
-policy_at = behind 1 (bytes_at 32)
+abbrev pub policy_at : Reading (Bool × List ℕ)
+policy_at = followed (number_at w8) version_at
 
 -- a value behind which something is left
 abbrev pub leaving : {A : Type 0} → Reading A → Reading A
