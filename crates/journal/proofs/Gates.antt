@@ -6,16 +6,17 @@ use Rattle.std.proofs.lemmas.Option.{some_pair_parts}
 use Rattle.base_bytes.specs.Pieces.{counted}
 use Rattle.base_bytes.specs.Reading.{Reading, number_at}
 use Rattle.base_bytes.proofs.Formats.{AreBytes, AreBytes-behind, AreBytes-front, AreBytes-rest, IsFormat, number_format, wide_8}
-use Rattle.journal.specs.Commits.{IsCommitForm, MayStand, commit_body}
+use Rattle.journal.specs.Commits.{HasNumber, IsCommitForm, body_bytes, commit_of}
+use Rattle.journal.specs.Outline.{Outline, StandsAt}
 use Rattle.journal.specs.Images.{BeginsWith}
 use Rattle.journal.specs.working.Opening.{IsBroken, IsFirst, ReadsNext}
-use Rattle.journal.specs.working.Reading.{commit_at, counted_body_at, leaving, record_at}
+use Rattle.journal.specs.working.Reading.{body_at, counted_body_at, leaving, record_at}
 use Rattle.journal.specs.working.Scanning.{Reads}
-use Rattle.journal.specs.declared.commit.Commit.{Commit}
-use Rattle.journal.specs.declared.commit.Commit.TheVariants.{Graph, Commands}
+use Rattle.journal.specs.declared.body.Body.{Body}
+use Rattle.journal.specs.declared.body.Body.TheVariants.{Graph, Former, Counted}
 use Rattle.journal.specs.declared.stop.Stop.{Stop}
 use Rattle.journal.specs.declared.stop.Stop.TheVariants as stop
-use Rattle.journal.proofs.Forms.{IsWhole, commit_record_format}
+use Rattle.journal.proofs.Forms.{IsWhole, body_record_format}
 use Rattle.journal.proofs.OneReading.{tails, whole}
 
 -- ---- bytes that are left
@@ -62,51 +63,57 @@ read_before_gate {A} {IsForm} {spelled} {read} format x gate behind bytes is par
     let some : (length (gate ∷ behind) == 0) ≡ false = ne_eqb _ _ (λ none. omega (arith, none)) in
     rw (reads, some) refl
 
--- ---- a record of a commit
+-- ---- a record of a body
 
 pub gate_open : (bytes rest : List ℕ) (gate : ℕ) → AreBytes bytes → number_at w8 bytes ≡ Some (gate, rest) → gate ≡ 1 → bytes ≡ 1 ∷ rest
 gate_open bytes rest gate are is shows =
     ((number_format wide_8).takes bytes (gate, rest) are is).0 ∙ ap (λ n. to_be_bytes w8 n ++ rest) shows
 
-formed : (commit : Commit) → IsWhole commit → IsCommitForm commit
+formed : (it : Body) → IsWhole it → IsCommitForm (commit_of it)
 formed (Graph id) is = is
-formed (Commands commands) is = (is.0, is.2)
+formed (Former commands) is = (is.0, is.2)
+formed (Counted held commands) is = (is.1.0, is.1.2)
 
-pub first_is : (is_fresh : Bool) (commit : Commit) (rest behind bytes : List ℕ) → AreBytes bytes → bytes ≡ 1 ∷ rest → record_at commit_at rest ≡ Some (commit, behind) → MayStand is_fresh commit → IsFirst is_fresh commit behind bytes
-first_is is_fresh commit rest behind bytes are gate is place =
-    let some = leaves_some (counted_body_at commit_at) rest commit behind is in
-    let t = commit_record_format.takes rest (commit, behind) (AreBytes-rest 1 rest (subst AreBytes gate are)) some.0 in
-    record { form = formed commit t.1.0; short = t.1.1; place = place; more = some.1; front = gate ∙ ap (λ l. 1 ∷ l) t.0 }
+numbered : (it : Body) → IsWhole it → HasNumber it
+numbered (Graph id) is = tt
+numbered (Former commands) is = tt
+numbered (Counted held commands) is = is.0
 
--- the record of a commit there would be read
-would_read : (commit : Commit) (rest bytes : List ℕ) → bytes ≡ 1 ∷ rest → IsCommitForm commit → length (commit_body commit) < 2 ^ 32 → BeginsWith (commit_body commit) bytes →
-    (gate : ℕ) × (behind : List ℕ) × (record_at commit_at rest ≡ Some (commit, gate ∷ behind))
-would_read commit rest bytes first form short (gate, behind, parts) =
-    let told : rest ≡ counted w32 (commit_body commit) ++ gate ∷ behind = (tails 1 1 rest (counted w32 (commit_body commit) ++ gate ∷ behind) (sym first ∙ parts)).1 in
-    (gate, behind, read_before_gate commit_record_format commit gate behind rest (whole commit form short, short) told)
+pub first_is : (outline : Outline) (it : Body) (rest behind bytes : List ℕ) → AreBytes bytes → bytes ≡ 1 ∷ rest → record_at body_at rest ≡ Some (it, behind) → StandsAt outline it → IsFirst outline it behind bytes
+first_is outline it rest behind bytes are gate is place =
+    let some = leaves_some (counted_body_at body_at) rest it behind is in
+    let t = body_record_format.takes rest (it, behind) (AreBytes-rest 1 rest (subst AreBytes gate are)) some.0 in
+    record { form = formed it t.1.0; number = numbered it t.1.0; short = t.1.1; place = place; more = some.1; front = gate ∙ ap (λ l. 1 ∷ l) t.0 }
 
-pub broken_record : (is_fresh : Bool) (rest bytes : List ℕ) → bytes ≡ 1 ∷ rest → record_at commit_at rest ≡ None → IsBroken is_fresh bytes
-broken_record is_fresh rest bytes first none = record {
+-- the record of a body there would be read
+would_read : (it : Body) (rest bytes : List ℕ) → bytes ≡ 1 ∷ rest → IsCommitForm (commit_of it) → HasNumber it → length (body_bytes it) < 2 ^ 32 → BeginsWith (body_bytes it) bytes →
+    (gate : ℕ) × (behind : List ℕ) × (record_at body_at rest ≡ Some (it, gate ∷ behind))
+would_read it rest bytes first form number short (gate, behind, parts) =
+    let told : rest ≡ counted w32 (body_bytes it) ++ gate ∷ behind = (tails 1 1 rest (counted w32 (body_bytes it) ++ gate ∷ behind) (sym first ∙ parts)).1 in
+    (gate, behind, read_before_gate body_record_format it gate behind rest (whole it form number short, short) told)
+
+pub broken_record : (outline : Outline) (rest bytes : List ℕ) → bytes ≡ 1 ∷ rest → record_at body_at rest ≡ None → IsBroken outline bytes
+broken_record outline rest bytes first none = record {
   behind = rest;
   front = first;
-  none = λ commit form short place begins. let r = would_read commit rest bytes first form short begins in no_value (sym none ∙ r.2);
+  none = λ it form number short place begins. let r = would_read it rest bytes first form number short begins in no_value (sym none ∙ r.2);
 }
   where
-    no_value : {x : Commit × List ℕ} → None ≡ Some x → ⊥
+    no_value : {x : Body × List ℕ} → None ≡ Some x → ⊥
     no_value same = absurd (cc)
 
-pub broken_place : (is_fresh : Bool) (commit : Commit) (rest behind bytes : List ℕ) → bytes ≡ 1 ∷ rest → record_at commit_at rest ≡ Some (commit, behind) → (MayStand is_fresh commit → ⊥) → IsBroken is_fresh bytes
-broken_place is_fresh commit rest behind bytes first is no_place = record {
+pub broken_place : (outline : Outline) (it : Body) (rest behind bytes : List ℕ) → bytes ≡ 1 ∷ rest → record_at body_at rest ≡ Some (it, behind) → (StandsAt outline it → ⊥) → IsBroken outline bytes
+broken_place outline it rest behind bytes first is no_place = record {
   behind = rest;
   front = first;
-  none = λ other form short place begins.
-      let r = would_read other rest bytes first form short begins in
-      let same = (some_pair_parts commit other behind (r.0 ∷ r.1) (sym is ∙ r.2)).0 in
-      no_place (subst (λ it. MayStand is_fresh it) (sym same) place);
+  none = λ other form number short place begins.
+      let r = would_read other rest bytes first form number short begins in
+      let same = (some_pair_parts it other behind (r.0 ∷ r.1) (sym is ∙ r.2)).0 in
+      no_place (subst (λ one. StandsAt outline one) (sym same) place);
 }
 
 -- an answer of a record is one of what stands at the gate
-pub refused_next : (error : Stop) (is_fresh : Bool) (rest rest_too bytes : List ℕ) (found : Option (Commit × List ℕ)) → Reads (λ commit. commit) (Err error) rest found → (found ≡ None → IsBroken is_fresh bytes) → ReadsNext is_fresh (Err error) rest_too bytes
-refused_next stop.Malformed is_fresh rest rest_too bytes found is broken = broken is
-refused_next (stop.Disk step) is_fresh rest rest_too bytes found is broken = tt
-refused_next stop.NoMemory is_fresh rest rest_too bytes found is broken = tt
+pub refused_next : (error : Stop) (outline : Outline) (rest rest_too bytes : List ℕ) (found : Option (Body × List ℕ)) → Reads (λ it. it) (Err error) rest found → (found ≡ None → IsBroken outline bytes) → ReadsNext outline (Err error) rest_too bytes
+refused_next stop.Malformed outline rest rest_too bytes found is broken = broken is
+refused_next (stop.Disk step) outline rest rest_too bytes found is broken = tt
+refused_next stop.NoMemory outline rest rest_too bytes found is broken = tt

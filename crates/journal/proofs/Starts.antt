@@ -9,8 +9,8 @@ use Rattle.base_bytes.specs.Pieces.{counted}
 use Rattle.outside.specs.Crashes.{Leaves, LeavesOnly}
 use Rattle.outside.specs.Disk.{Content, IsImage, after_sync, at_rest, with_range}
 use Rattle.outside.specs.declared.faults.DiskStep.{DiskStep}
-use Rattle.journal.specs.Commits.{gated, open_record, policy_body}
-use Rattle.journal.specs.Images.{IsFresh, ReadsHeld, Splits}
+use Rattle.journal.specs.Commits.{commits_of, open_record, policy_body}
+use Rattle.journal.specs.Images.{IsFresh, ReadsHeld, Splits, ungated}
 use Rattle.journal.specs.Journal.{IsSettled, WasOrReadsAlike}
 use Rattle.journal.specs.Outline.{outline_of}
 use Rattle.journal.specs.Ends.{outline_at}
@@ -20,22 +20,23 @@ use Rattle.journal.specs.declared.commit.Commit.{Commit}
 use Rattle.journal.specs.declared.end.End.{End}
 use Rattle.journal.specs.declared.fault.OpenFault.{OpenFault}
 use Rattle.outside.proofs.Crashes.{no_calls}
+use Rattle.journal.proofs.OneMore.{ungated_is}
 use Rattle.journal.proofs.Torn.{synced, done_through, failed_through, record_leaves, record_reads}
 
 -- a first record with some gate before it, and a closed gate behind it, holds no commits
-first_held : (digest rest : List ℕ) (byte : ℕ) → length digest ≡ 32 → ReadsHeld digest (byte ∷ ((counted w32 (policy_body digest) ++ 0 ∷ []) ++ rest)) []
+first_held : (digest rest : List ℕ) (byte : ℕ) → length digest ≡ 32 → ReadsHeld digest (byte ∷ ((counted w32 (policy_body false digest) ++ 0 ∷ []) ++ rest)) []
 first_held digest rest byte size = ⊎_elim
-    (λ is_open. inr ([], 0, rest, splits is_open, (λ same. absurd (omega (arith, same))), refl))
+    (λ is_open. inr (false, [], 0, rest, splits is_open, (λ same. absurd (omega (arith, same))), refl))
     (λ shut. inl (inr shut, refl))
     (cases_eq byte 1)
   where
-    splits : byte ≡ 1 → Splits digest [] 0 rest (byte ∷ ((counted w32 (policy_body digest) ++ 0 ∷ []) ++ rest))
+    splits : byte ≡ 1 → Splits false digest [] 0 rest (byte ∷ ((counted w32 (policy_body false digest) ++ 0 ∷ []) ++ rest))
     splits is_open = record {
       size = size;
       follow = tt;
-      parts = ap (λ b. b ∷ ((counted w32 (policy_body digest) ++ 0 ∷ []) ++ rest)) is_open
-          ∙ ap (λ l. 1 ∷ l) (append_assoc (counted w32 (policy_body digest)) (0 ∷ []) rest)
-          ∙ sym (append_assoc (open_record (policy_body digest)) [] (0 ∷ rest));
+      parts = ap (λ b. b ∷ ((counted w32 (policy_body false digest) ++ 0 ∷ []) ++ rest)) is_open
+          ∙ ap (λ l. 1 ∷ l) (append_assoc (counted w32 (policy_body false digest)) (0 ∷ []) rest)
+          ∙ sym (append_assoc (open_record (policy_body false digest)) [] (0 ∷ rest));
     }
 
 fresh_held : (digest image : List ℕ) → IsFresh image → ReadsHeld digest image []
@@ -49,7 +50,7 @@ module _ (digest : List ℕ) (size : length digest ≡ 32) (entry : Content) (fr
   alike image held = inr ([], fresh_held digest entry.reads fresh, held)
 
   abbrev bytes : List ℕ
-  bytes = counted w32 (policy_body digest) ++ 0 ∷ []
+  bytes = counted w32 (policy_body false digest) ++ 0 ∷ []
 
   -- the first record behind a closed gate
   module _ (old : Content) (byte : ℕ) (behind : List ℕ) (so_far : LeavesOnly entry old P) (reads : old.reads ≡ byte ∷ behind) (rests : old.now ≡ at_rest old.reads) (shut : byte ≢ 1) where
@@ -57,12 +58,15 @@ module _ (digest : List ℕ) (size : length digest ≡ 32) (entry : Content) (fr
     begun_leaves new result is = record_leaves entry P old [] behind bytes byte 0 refl so_far reads rests
         (λ rest. alike (byte ∷ rest) (fresh_held digest (byte ∷ rest) (inr shut))) (λ b rest. alike (b ∷ (bytes ++ rest)) (first_held digest rest b size)) new result is
 
-    pub begun_settled : {X : Type 0} (new : Content) (result : Result X DiskStep) → WritesRecord 0 bytes old new result → OnOk result (IsSettled new (outline_of []) digest [])
+    pub begun_settled : {X : Type 0} (new : Content) (result : Result X DiskStep) → WritesRecord 0 bytes old new result → OnOk result (IsSettled new (outline_of false []) digest [])
     begun_settled new (Err step) is = tt
     begun_settled new (Ok x) is =
         let all : new.reads ≡ 1 ∷ (bytes ++ drop (length bytes) behind) = record_reads entry P old [] behind bytes byte 0 refl so_far reads rests
         (λ rest. alike (byte ∷ rest) (fresh_held digest (byte ∷ rest) (inr shut))) (λ b rest. alike (b ∷ (bytes ++ rest)) (first_held digest rest b size)) new is in
         record {
+          is_former = false;
+          bodies = [];
+          listed = refl;
           outlined = refl;
           gate = 0;
           behind = drop (length bytes) behind;
@@ -70,8 +74,8 @@ module _ (digest : List ℕ) (size : length digest ≡ 32) (entry : Content) (fr
           splits = record {
             size = size;
             follow = tt;
-            parts = all ∙ ap (λ l. 1 ∷ l) (append_assoc (counted w32 (policy_body digest)) (0 ∷ []) (drop (length bytes) behind))
-                ∙ sym (append_assoc (open_record (policy_body digest)) [] (0 ∷ drop (length bytes) behind));
+            parts = all ∙ ap (λ l. 1 ∷ l) (append_assoc (counted w32 (policy_body false digest)) (0 ∷ []) (drop (length bytes) behind))
+                ∙ sym (append_assoc (open_record (policy_body false digest)) [] (0 ∷ drop (length bytes) behind));
           };
           rests = ap (λ (c : Content). c.now) is ∙ ap (λ (c : Content). at_rest c.reads) (sym is);
         }
@@ -100,7 +104,7 @@ first_byte (byte ∷ others) more = refl
 -- ---- the whole start
 
 pub start_long : {X : Type 0} (digest : List ℕ) (entry old new : Content) (result : Result X DiskStep) → length digest ≡ 32 → 0 < length old.reads → StartsOn false digest entry old →
-    WritesRecord 0 (counted w32 (policy_body digest) ++ 0 ∷ []) old new result → LeavesOnly entry new (WasOrReadsAlike digest entry) × OnOk result (IsSettled new (outline_of []) digest [])
+    WritesRecord 0 (counted w32 (policy_body false digest) ++ 0 ∷ []) old new result → LeavesOnly entry new (WasOrReadsAlike digest entry) × OnOk result (IsSettled new (outline_of false []) digest [])
 start_long digest entry old new result size more starts is =
     let shut = starts.shut refl in
     let fresh : IsFresh entry.reads = inr (subst (λ l. slice_index l 0 ≢ 1) starts.reads shut) in
@@ -116,7 +120,7 @@ start_short_fails digest entry old new size starts fails =
     cleared_fails digest size entry fresh old starts.so_far starts.rests short new fails
 
 pub start_short : {X : Type 0} (digest : List ℕ) (entry old mid new : Content) (result : Result X DiskStep) → length digest ≡ 32 → StartsOn true digest entry old → mid ≡ through 0 (0 ∷ []) old →
-    WritesRecord 0 (counted w32 (policy_body digest) ++ 0 ∷ []) mid new result → LeavesOnly entry new (WasOrReadsAlike digest entry) × OnOk result (IsSettled new (outline_of []) digest [])
+    WritesRecord 0 (counted w32 (policy_body false digest) ++ 0 ∷ []) mid new result → LeavesOnly entry new (WasOrReadsAlike digest entry) × OnOk result (IsSettled new (outline_of false []) digest [])
 start_short digest entry old mid new result size starts first is =
     let short = starts.short refl in
     let fresh : IsFresh entry.reads = inl (subst (λ l. length l < 2) starts.reads short) in
@@ -139,20 +143,20 @@ settled_once digest entry old image is = (
 
 -- a journal that was found whole is settled
 pub held_settled : (digest : List ℕ) (content : Content) (end : End) (items : List (ℕ × Commit)) → IsHeld digest content.reads end items → content.now ≡ at_rest content.reads →
-    (commits : List Commit) × IsSettled content (outline_at end) digest commits × (items ≡ gated commits)
+    (commits : List Commit) × IsSettled content (outline_at end) digest commits × (ungated items ≡ commits)
 held_settled digest content end items is rests =
-    (is.commits, record { outlined = is.outline; gate = is.gate; behind = is.behind; shut = is.shut; splits = is.splits; rests = rests }, is.gates)
+    (commits_of is.bodies, record { is_former = is.is_former; bodies = is.bodies; listed = refl; outlined = is.outline; gate = is.gate; behind = is.behind; shut = is.shut; splits = is.splits; rests = rests }, ap ungated is.gates ∙ ungated_is is.bodies)
 
 -- what opening answers where a journal was begun
 pub begun_answers : {X : Type 0} (result : Result (End × Vec (ℕ × Commit) Global) OpenFault) (started : Result X DiskStep) (content : Content) (digest : List ℕ) →
-    IfOk result (λ found. IsOk started × (outline_at found.0 ≡ outline_of []) × (found.1.items ≡ [])) → OnOk started (IsSettled content (outline_of []) digest []) →
-    IfOk result (λ found. (commits : List Commit) × IsSettled content (outline_at found.0) digest commits × (found.1.items ≡ gated commits))
+    IfOk result (λ found. IsOk started × (outline_at found.0 ≡ outline_of false []) × (found.1.items ≡ [])) → OnOk started (IsSettled content (outline_of false []) digest []) →
+    IfOk result (λ found. (commits : List Commit) × IsSettled content (outline_at found.0) digest commits × (ungated found.1.items ≡ commits))
 begun_answers (Err error) started content digest is settled = tt
 begun_answers (Ok found) (Err step) content digest is settled = absurd (no_ok is.0)
   where
     no_ok : false ≡ true → ⊥
     no_ok same = absurd (cc)
-begun_answers (Ok found) (Ok x) content digest is settled = ([], subst (λ o. IsSettled content o digest []) (sym is.1) settled, is.2)
+begun_answers (Ok found) (Ok x) content digest is settled = ([], subst (λ o. IsSettled content o digest []) (sym is.1) settled, ap ungated is.2)
 
 -- the disk is short, or its first gate is closed
 pub starts_short : (digest : List ℕ) (entry old : Content) → LeavesOnly entry old (WasOrReadsAlike digest entry) × (old.reads ≡ entry.reads) × (old.now ≡ at_rest old.reads) → length old.reads < 2 → StartsOn true digest entry old

@@ -1,28 +1,30 @@
 -- Opening leaves what stands on a disk where a journal was begun.
 use Rattle.std.proofs.Common.{◌≡◌, ◌≢◌, ◌∙◌, ap, sym, subst, inl, inr, ℕ, ◌<◌, List, length, slice_index}
 use Rattle.outside.specs.Disk.{Content, after_sync, at_rest}
-use Rattle.journal.specs.Commits.{policy_body}
 use Rattle.journal.specs.Images.{IsBegun, Splits}
 use Rattle.journal.specs.Journal.{IsSettled, StaysSettled}
 use Rattle.journal.specs.Outline.{Outline}
 use Rattle.journal.specs.declared.commit.Commit.{Commit}
-use Rattle.journal.proofs.OneReading.{begins_with_policy, begun, not_fresh}
+use Rattle.journal.proofs.OneReading.{not_fresh, split_begun}
 
 -- a journal that is settled was begun
 pub settled_begun : (content : Content) {outline : Outline} {digest : List ℕ} {commits : List Commit} → IsSettled content outline digest commits → IsBegun content.reads
 settled_begun content {outline} {digest} {commits} settled =
-    begun (policy_body digest) content.reads (begins_with_policy digest commits settled.gate settled.behind content.reads settled.splits)
+    split_begun settled.is_former digest settled.bodies settled.gate settled.behind content.reads settled.splits
 
 -- it is still settled behind a sync
 pub stays_synced : (old new : Content) → new ≡ after_sync old → StaysSettled old new
 stays_synced old new is outline digest commits settled =
     let reads : new.reads ≡ old.reads = ap (λ (c : Content). c.reads) is in
     record {
+      is_former = settled.is_former;
+      bodies = settled.bodies;
+      listed = settled.listed;
       outlined = settled.outlined;
       gate = settled.gate;
       behind = settled.behind;
       shut = settled.shut;
-      splits = subst (Splits digest commits settled.gate settled.behind) (sym reads) settled.splits;
+      splits = subst (Splits settled.is_former digest settled.bodies settled.gate settled.behind) (sym reads) settled.splits;
       rests = ap (λ (c : Content). c.now) is ∙ ap at_rest (sym reads);
     }
 

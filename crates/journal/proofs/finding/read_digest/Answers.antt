@@ -8,7 +8,7 @@ pub returns-in-Ok-clause-digest : goal.returns-in-Ok-clause-digest
 returns-in-Ok-clause-digest g c = λ told.
     let span = c.args.span.now in
     let reads = (g.D.Disk.content c.args.disk.now).reads in
-    policy_first c.in-Ok.digest (left (g.D.Disk.content c.read_first.new.disk).reads c.read_first.new.span) (left reads span)
+    policy_first c.in-Ok.found (left (g.D.Disk.content c.read_first.new.disk).reads c.read_first.new.span) (left reads span)
     (are_left reads (g.met.D.Disk.reads_bytes c.args.disk.now told) span.place (span.end - span.place)) (c.in-Ok.ensures.read told)
 
 pub returns-in-Err-clause-digest : goal.returns-in-Err-clause-digest
