@@ -3,6 +3,7 @@ mod Forms
 mod Founds
 mod Gates
 mod OneMore
+mod JournalRows
 mod Looking
 mod OneReading
 mod Readings

@@ -1,5 +1,5 @@
 use crate::adding::{Stop, add_init, begin};
-use crate::written::{DIGEST, INIT, journal_bytes, one_command};
+use crate::written::{DIGEST, INIT, Version, journal_bytes, one_command};
 use base_bytes::{Bytes, Id};
 use journal::{Commit, DiskStep};
 use outside::MemoryDisk;
@@ -28,7 +28,7 @@ fn a_journal_that_failed_is_opened_again(rt: HostRuntime) -> Result<(), Fail> {
     assert!(rt; journal.failed());
     journal.adopt(reopened);
     assert!(rt; !journal.failed());
-    assert!(rt; journal.into_disk().bytes().get(..39) == Some(journal_bytes(alloc, 0)?.as_slice()));
+    assert!(rt; journal.into_disk().bytes().get(..39) == Some(journal_bytes(alloc, Version::Present, 0)?.as_slice()));
     Ok(())
 }
 

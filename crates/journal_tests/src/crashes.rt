@@ -1,5 +1,5 @@
 use crate::adding::{Stop, add_init, add_next, begin};
-use crate::written::{DIGEST, INIT, PUT, journal_bytes, one_command, opened};
+use crate::written::{DIGEST, INIT, PUT, VERSIONS, Version, journal_bytes, one_command, opened};
 use base_bytes::{Bytes, Id, NoMemory};
 use outside::MemoryDisk;
 use std::alloc::Global;
@@ -56,7 +56,7 @@ fn a_disk_that_fails_at_any_call_holds_whole_commits(rt: HostRuntime) -> Result<
             "{failing}"
         );
         if stop.is_none() {
-            assert!(rt; disk.bytes() == journal_bytes(alloc, 2)?.as_slice());
+            assert!(rt; disk.bytes() == journal_bytes(alloc, Version::Present, 2)?.as_slice());
         }
     }
     Ok(())
@@ -142,24 +142,27 @@ fn assert_commit(
 fn each_image_of_an_opening_holds_nothing(rt: HostRuntime) -> Result<(), Fail> {
     let alloc = rt.alloc();
     assert_behind(&rt, alloc, &[], &[0], 0)?;
-    assert_commit(&rt, alloc, &[0], journal_bytes(alloc, 0)?.as_slice(), 0, 0)?;
+    let after = journal_bytes(alloc, Version::Present, 0)?;
+    assert_commit(&rt, alloc, &[0], after.as_slice(), 0, 0)?;
     Ok(())
 }
 
 #[test]
 fn each_image_of_two_commits_holds_whole_ones(rt: HostRuntime) -> Result<(), Fail> {
     let alloc = rt.alloc();
-    for held in 0..2 {
-        let before = journal_bytes(alloc, held)?;
-        let after = journal_bytes(alloc, held + 1)?;
-        assert_commit(
-            &rt,
-            alloc,
-            before.as_slice(),
-            after.as_slice(),
-            held,
-            held + 1,
-        )?;
+    for version in VERSIONS {
+        for held in 0..2 {
+            let before = journal_bytes(alloc, version, held)?;
+            let after = journal_bytes(alloc, version, held + 1)?;
+            assert_commit(
+                &rt,
+                alloc,
+                before.as_slice(),
+                after.as_slice(),
+                held,
+                held + 1,
+            )?;
+        }
     }
     Ok(())
 }
