@@ -6,8 +6,8 @@ use Rattle.braid_run.specs.Soundness.{AreSound, Criteria, IsSound}
 use Rattle.braid_run.specs.States.{Held}
 use Rattle.command.specs.declared.command.Command.{Command}
 use Rattle.journal.specs.Calls.{journal_disk, journal_failed, journal_outline}
-use Rattle.journal.specs.Commits.{IsCommitForm, command_count, gated, has_none}
-use Rattle.journal.specs.Images.{Damaged, Holds, OtherPolicy, ReadsAs}
+use Rattle.journal.specs.Commits.{IsCommitForm, command_count, has_none}
+use Rattle.journal.specs.Images.{Damaged, Holds, OtherPolicy, ReadsAs, ungated}
 use Rattle.journal.specs.Journal.{AreOf, IsSettled, Opens as JournalOpens, StaysSettled, WasOrReadsAlike}
 use Rattle.journal.specs.Outline.{Outline}
 use Rattle.journal.specs.declared.commit.Commit.{Commit}
@@ -28,7 +28,7 @@ use Rattle.replica.specs.working.Commits.{OpensSound, Parts, SurvivesSettled}
 use Rattle.replica.specs.working.Openings.{IsLedTo, IsRefusedAt}
 use Rattle.replica.proofs.CallFacts.{kept_of, survives_now}
 use Rattle.replica.proofs.CommitFacts.{leaves_now}
-use Rattle.replica.proofs.Opens.{ReadOnce, ungated}
+use Rattle.replica.proofs.Opens.{ReadOnce}
 use Rattle.transaction.specs.Applying.{graph_named}
 
 -- ---- the front behind admitted commits
@@ -62,7 +62,7 @@ module _ {D : Type 0} (sense : Sense D) (criteria : Criteria) where
   -- what a journal was opened with
   abbrev pub IsRead : Journal D → List (ℕ × Commit) → Type 0
   IsRead journal items =
-      IsTrue sense.tells → IsTrue (sense.honest (journal_disk journal)) → (commits : List Commit) × IsSettled (sense.content (journal_disk journal)) (journal_outline journal) criteria.digest commits × (items ≡ gated commits)
+      IsTrue sense.tells → IsTrue (sense.honest (journal_disk journal)) → (commits : List Commit) × IsSettled (sense.content (journal_disk journal)) (journal_outline journal) criteria.digest commits × (ungated items ≡ commits)
 
   pub backed_opened : (held : Held) (journal : Journal D) (items : List (ℕ × Commit)) → AreOf (journal_outline journal) items → journal_failed journal ≡ false → IsLedTo criteria items held → IsRead journal items →
       IsBacked sense criteria.digest held None journal
@@ -76,8 +76,8 @@ module _ {D : Type 0} (sense : Sense D) (criteria : Criteria) where
       front : behind_commits no_front (map (λ item. item.1) items) ≡ front_of held
       front = admitted_front criteria items no_front (front_of held) led.opens
 
-      lead : (commits : List Commit) → items ≡ gated commits → LeadTo commits held
-      lead commits same = ap (behind_commits no_front) (sym (ungated 38 commits) ∙ ap (map (λ item. item.1)) (sym same)) ∙ front
+      lead : (commits : List Commit) → ungated items ≡ commits → LeadTo commits held
+      lead commits same = ap (behind_commits no_front) (sym same) ∙ front
 
 -- ---- what stays is still backed
 
@@ -85,9 +85,9 @@ module _ (once : ReadOnce) (survives : SurvivesSettled) (digest : List ℕ) (old
   -- an image that reads as the old disk did
   alike : (commits : List Commit) (loose : Option Commit) → ReadsLoose digest commits loose old.reads → (items : List (ℕ × Commit)) → ReadsAs digest old.reads (Holds items) → (image : List ℕ) →
       ReadsAs digest image (Holds items) → ReadsLoose digest commits loose image
-  alike commits loose (inl is) items was image now = inl (subst (ReadsAs digest image) (once digest old.reads (Holds items) (Holds (gated commits)) was is) now)
-  alike commits loose (inr (commit, same, is)) items was image now =
-      inr (commit, same, subst (ReadsAs digest image) (once digest old.reads (Holds items) (Holds (gated (commits ++ commit ∷ []))) was is) now)
+  alike commits loose (inl (held, is, same)) items was image now = inl (held, subst (ReadsAs digest image) (once digest old.reads (Holds items) (Holds held) was is) now, same)
+  alike commits loose (inr (commit, same, held, is, listed)) items was image now =
+      inr (commit, same, held, subst (ReadsAs digest image) (once digest old.reads (Holds items) (Holds held) was is) now, listed)
 
   loosely : (commits : List Commit) (loose : Option Commit) → ((image : List ℕ) → MayLeave old image → ReadsLoose digest commits loose image) → (image : List ℕ) → MayLeave new image → ReadsLoose digest commits loose image
   loosely commits loose was image may =

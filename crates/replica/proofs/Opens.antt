@@ -1,5 +1,5 @@
 -- What was committed opens to what was held: the commands of a sound list are added, one after another.
-use Rattle.std.proofs.Common.{◌≡◌, ℕ, ◌≤◌, inl, inr, false, true, List, [], ◌∷◌, ◌++◌, length, map, Option, Some, refl, sym, ap, subst, ◌∙◌, arith, append_assoc, append-nil, length-append}
+use Rattle.std.proofs.Common.{◌≡◌, ℕ, ◌≤◌, inl, inr, Bool, false, true, List, [], ◌∷◌, ◌++◌, length, map, Option, Some, refl, sym, ap, subst, ◌∙◌, arith, append_assoc, append-nil, length-append}
 use Rattle.std.specs.List.{Contains}
 use Rattle.std.proofs.lemmas.List.Elements.{Contains-append_left}
 use Rattle.accept.specs.Admission.{IsAdmission}
@@ -21,8 +21,10 @@ use Rattle.command.specs.declared.command.Command.{Command}
 use Rattle.command.proofs.AncestorFacts.{IsDown, ancestor_down, front_down, inside_down}
 use Rattle.command.proofs.ClosedFacts.{held_by, held_command, same_by_id}
 use Rattle.command.proofs.ListFacts.{each_cut, each_left, in_middle}
-use Rattle.journal.specs.Commits.{IsNext as IsNextCommit, gated, gated_from, next_gate}
-use Rattle.journal.specs.Images.{Damaged, Holds, OtherPolicy, ReadsAs, Reading}
+use Rattle.journal.specs.Commits.{IsNext as IsNextBody, commit_of, commits_of, gated_from, next_gate}
+use Rattle.journal.specs.Images.{Damaged, Holds, HoldsCommits, OtherPolicy, ReadsAs, Reading, ungated}
+use Rattle.journal.specs.declared.body.Body.{Body}
+use Rattle.journal.specs.declared.body.Body.TheVariants.{Graph as GraphBody, Former, Counted}
 use Rattle.journal.specs.declared.commit.Commit.{Commit}
 use Rattle.journal.specs.declared.commit.Commit.TheVariants.{Graph, Commands}
 use Rattle.replica.specs.Fronts.{Admits, Front, Opening, Opens, OpensAs, OpensReading, all_added, behind_commit, behind_commits, no_front}
@@ -143,6 +145,43 @@ commits_lead front (Graph id ∷ commits) = commits_lead (behind_commit front (G
 commits_lead front (Commands list ∷ commits) =
     leads_on front.commands (front.commands ++ list) (behind_commits (behind_commit front (Commands list)) commits).commands (list, refl) (commits_lead (behind_commit front (Commands list)) commits)
 
+-- bodies behind others leave the graph's id
+pub id_stays : (is_former : Bool) (first : Body) (before bodies : List Body) (id : List ℕ) (held : List Command) → EachAfter (IsNextBody is_former) (first ∷ before) bodies → (behind_commits (named id held) (commits_of bodies)).graph_id ≡ Some id
+id_stays is_former first before [] id held follow = refl
+id_stays is_former first before (GraphBody other ∷ bodies) id held follow = let no : false ≡ true = follow.0.place in absurd cc
+id_stays is_former first before (Former list ∷ bodies) id held follow = id_stays is_former first (before ++ Former list ∷ []) bodies id (held ++ list) follow.1
+id_stays is_former first before (Counted number list ∷ bodies) id held follow = id_stays is_former first (before ++ Counted number list ∷ []) bodies id (held ++ list) follow.1
+
+module _ (welcome : AreWelcome) (answers : HaveOneAnswer) (criteria : Criteria) where
+  module _ (graph_id : Option (List ℕ)) (held : List Command) where
+    all_on : (done list more : List Command) → AreSound criteria graph_id ((held ++ done) ++ (list ++ more)) → IsTakenOn criteria graph_id held (all_added done) list (all_added (done ++ list))
+    all_on done [] more sound = ap all_added (append-nil done)
+    all_on done (c ∷ list) more sound =
+        let same : (held ++ done) ++ c ∷ (list ++ more) ≡ (held ++ (done ++ c ∷ [])) ++ (list ++ more) =
+        sym (append_assoc (held ++ done) (c ∷ []) (list ++ more)) ∙ ap (λ l. l ++ (list ++ more)) (append_assoc held done (c ∷ [])) in
+        let rest = all_on (done ++ c ∷ []) list more (subst (AreSound criteria graph_id) same sound) in (
+          Added,
+          is_added criteria graph_id (held ++ done) c (list ++ more) sound welcome answers,
+          subst (λ l. IsTakenOn criteria graph_id held (all_added (done ++ c ∷ [])) list (all_added l)) (append_assoc done (c ∷ []) list) rest,
+        )
+
+    -- a take of what follows in a sound list adds all
+    pub adds_all : (list more : List Command) → AreSound criteria graph_id (held ++ (list ++ more)) → IsTake criteria graph_id held list (all_added list)
+    adds_all list more sound = all_on [] list more (subst (λ l. AreSound criteria graph_id (l ++ (list ++ more))) (sym (append-nil held)) sound)
+
+-- ---- commits
+
+-- a graph that has an id
+abbrev pub named : List ℕ → List Command → Front
+named id held = record { graph_id = Some id; commands = held }
+
+-- behind commits stand the commands before them
+pub commits_lead : (front : Front) (commits : List Commit) → (more : List Command) × ((behind_commits front commits).commands ≡ front.commands ++ more)
+commits_lead front [] = leads_itself front.commands
+commits_lead front (Graph id ∷ commits) = commits_lead (behind_commit front (Graph id)) commits
+commits_lead front (Commands list ∷ commits) =
+    leads_on front.commands (front.commands ++ list) (behind_commits (behind_commit front (Commands list)) commits).commands (list, refl) (commits_lead (behind_commit front (Commands list)) commits)
+
 -- commits behind others leave the graph's id
 pub id_stays : (first : Commit) (before commits : List Commit) (id : List ℕ) (held : List Command) → EachAfter IsNextCommit (first ∷ before) commits → (behind_commits (named id held) commits).graph_id ≡ Some id
 id_stays first before [] id held follow = refl
@@ -156,48 +195,69 @@ module _ (welcome : AreWelcome) (answers : HaveOneAnswer) (criteria : Criteria) 
       let more = commits_lead (behind_commit front (Commands list)) commits in
       adds_all welcome answers criteria graph_id front.commands list more.0 (subst (AreSound criteria graph_id) (more.1 ∙ append_assoc front.commands list more.0) sound)
 
-  admits_later : (first : Commit) (before commits : List Commit) (id : List ℕ) (held : List Command) (gate : ℕ) → EachAfter IsNextCommit (first ∷ before) commits →
-      AreSound criteria (Some id) (behind_commits (named id held) commits).commands → Admits criteria (named id held) (gated_from gate commits) (Opens (behind_commits (named id held) commits))
-  admits_later first before [] id held gate follow sound = refl
-  admits_later first before (Graph other ∷ commits) id held gate follow sound = let no : false ≡ true = follow.0.place in absurd cc
-  admits_later first before (Commands list ∷ commits) id held gate follow sound =
-      inl ((tt, admitted (Some id) (named id held) list commits refl sound), admits_later first (before ++ Commands list ∷ []) commits id (held ++ list) (next_gate gate (Commands list)) follow.1 sound)
+  module _ (is_former : Bool) where
+    admits_later : (first : Body) (before bodies : List Body) (id : List ℕ) (held : List Command) (gate : ℕ) → EachAfter (IsNextBody is_former) (first ∷ before) bodies →
+        AreSound criteria (Some id) (behind_commits (named id held) (commits_of bodies)).commands → Admits criteria (named id held) (gated_from gate bodies) (Opens (behind_commits (named id held) (commits_of bodies)))
+    admits_later first before [] id held gate follow sound = refl
+    admits_later first before (GraphBody other ∷ bodies) id held gate follow sound = let no : false ≡ true = follow.0.place in absurd cc
+    admits_later first before (Former list ∷ bodies) id held gate follow sound =
+        inl ((tt, admitted (Some id) (named id held) list (commits_of bodies) refl sound), admits_later first (before ++ Former list ∷ []) bodies id (held ++ list) (next_gate gate (Former list)) follow.1 sound)
+    admits_later first before (Counted number list ∷ bodies) id held gate follow sound =
+        inl ((tt, admitted (Some id) (named id held) list (commits_of bodies) refl sound), admits_later first (before ++ Counted number list ∷ []) bodies id (held ++ list) (next_gate gate (Counted number list)) follow.1 sound)
 
-  -- the commits of a journal are admitted, where all that they lead to is sound
-  pub admits_all : (commits : List Commit) (gate : ℕ) → EachAfter IsNextCommit [] commits → AreSound criteria (behind_commits no_front commits).graph_id (behind_commits no_front commits).commands →
-      Admits criteria no_front (gated_from gate commits) (Opens (behind_commits no_front commits))
-  admits_all [] gate follow sound = refl
-  admits_all (Graph id ∷ commits) gate follow sound =
-      let own : AreSound criteria (Some id) (behind_commits (named id []) commits).commands =
-      subst (λ i. AreSound criteria i (behind_commits (named id []) commits).commands) (id_stays (Graph id) [] commits id [] follow.1) sound in
-      inl ((refl, refl), admits_later (Graph id) [] commits id [] (next_gate gate (Graph id)) follow.1 own)
-  admits_all (Commands [] ∷ commits) gate follow sound = let some = follow.0.form.0 in absurd (omega (arith, some))
-  admits_all (Commands (c ∷ list) ∷ commits) gate follow sound =
-      let id = command_id c in
-      let first = Commands (c ∷ list) in
-      let own : AreSound criteria (Some id) (behind_commits (named id (c ∷ list)) commits).commands =
-      subst (λ i. AreSound criteria i (behind_commits (named id (c ∷ list)) commits).commands) (id_stays first [] commits id (c ∷ list) follow.1) sound in
-      inl ((tt, admitted (Some id) (named id []) (c ∷ list) commits refl own), admits_later first [] commits id (c ∷ list) (next_gate gate first) follow.1 own)
+    -- the first commands
+    admits_first : (first : Body) (c : Command) (list : List Command) (bodies : List Body) (gate : ℕ) → EachAfter (IsNextBody is_former) (first ∷ []) bodies →
+        AreSound criteria (behind_commits (named (command_id c) (c ∷ list)) (commits_of bodies)).graph_id (behind_commits (named (command_id c) (c ∷ list)) (commits_of bodies)).commands →
+        IsTake criteria (Some (command_id c)) [] (c ∷ list) (all_added (c ∷ list)) × Admits criteria (named (command_id c) (c ∷ list)) (gated_from gate bodies) (Opens (behind_commits (named (command_id c) (c ∷ list)) (commits_of bodies)))
+    admits_first first c list bodies gate follow sound =
+        let id = command_id c in
+        let own : AreSound criteria (Some id) (behind_commits (named id (c ∷ list)) (commits_of bodies)).commands =
+        subst (λ i. AreSound criteria i (behind_commits (named id (c ∷ list)) (commits_of bodies)).commands) (id_stays is_former first [] bodies id (c ∷ list) follow) sound in
+        (admitted (Some id) (named id []) (c ∷ list) (commits_of bodies) refl own, admits_later first [] bodies id (c ∷ list) gate follow own)
+
+    -- the commits of a journal are admitted, where all that they lead to is sound
+    pub admits_all : (bodies : List Body) (gate : ℕ) → EachAfter (IsNextBody is_former) [] bodies → AreSound criteria (behind_commits no_front (commits_of bodies)).graph_id (behind_commits no_front (commits_of bodies)).commands →
+        Admits criteria no_front (gated_from gate bodies) (Opens (behind_commits no_front (commits_of bodies)))
+    admits_all [] gate follow sound = refl
+    admits_all (GraphBody id ∷ bodies) gate follow sound =
+        let own : AreSound criteria (Some id) (behind_commits (named id []) (commits_of bodies)).commands =
+        subst (λ i. AreSound criteria i (behind_commits (named id []) (commits_of bodies)).commands) (id_stays is_former (GraphBody id) [] bodies id [] follow.1) sound in
+        inl ((refl, refl), admits_later (GraphBody id) [] bodies id [] (next_gate gate (GraphBody id)) follow.1 own)
+    admits_all (Former [] ∷ bodies) gate follow sound = let some = follow.0.form.0 in absurd (omega (arith, some))
+    admits_all (Counted number [] ∷ bodies) gate follow sound = let some = follow.0.form.0 in absurd (omega (arith, some))
+    admits_all (Former (c ∷ list) ∷ bodies) gate follow sound =
+        let both = admits_first (Former (c ∷ list)) c list bodies (next_gate gate (Former (c ∷ list))) follow.1 sound in inl ((tt, both.0), both.1)
+    admits_all (Counted number (c ∷ list) ∷ bodies) gate follow sound =
+        let both = admits_first (Counted number (c ∷ list)) c list bodies (next_gate gate (Counted number (c ∷ list))) follow.1 sound in inl ((tt, both.0), both.1)
 
 -- ---- what an image reads as
 
 -- the commits behind their gates
-pub ungated : (gate : ℕ) (commits : List Commit) → map (λ item. item.1) (gated_from gate commits) ≡ commits
-ungated gate [] = refl
-ungated gate (commit ∷ commits) = ap (λ l. commit ∷ l) (ungated (next_gate gate commit) commits)
+ungated_from : (gate : ℕ) (bodies : List Body) → ungated (gated_from gate bodies) ≡ commits_of bodies
+ungated_from gate [] = refl
+ungated_from gate (it ∷ bodies) = ap (λ l. commit_of it ∷ l) (ungated_from (next_gate gate it) bodies)
 
-pub same_gated : (commits others : List Commit) → gated commits ≡ gated others → commits ≡ others
-same_gated commits others same = sym (ungated 38 commits) ∙ ap (map (λ item. item.1)) same ∙ ungated 38 others
+module _ (welcome : AreWelcome) (answers : HaveOneAnswer) (criteria : Criteria) (image : List ℕ) where
+  -- what the image reads as is admitted, where all that it leads to is sound
+  held_opens : (held : List (ℕ × Commit)) → ReadsAs criteria.digest image (Holds held) →
+      AreSound criteria (behind_commits no_front (ungated held)).graph_id (behind_commits no_front (ungated held)).commands → Admits criteria no_front held (Opens (behind_commits no_front (ungated held)))
+  held_opens held (inl fresh) sound = subst (λ h. Admits criteria no_front h (Opens (behind_commits no_front (ungated h)))) (sym fresh.1) refl
+  held_opens held (inr (is_former, bodies, gate, behind, splits, shut, lists)) sound =
+      let listed : ungated held ≡ commits_of bodies = ap ungated lists ∙ ungated_from 38 bodies in
+      let sound_too : AreSound criteria (behind_commits no_front (commits_of bodies)).graph_id (behind_commits no_front (commits_of bodies)).commands =
+      subst (λ l. AreSound criteria (behind_commits no_front l).graph_id (behind_commits no_front l).commands) listed sound in
+      subst (λ l. Admits criteria no_front held (Opens (behind_commits no_front l))) (sym listed)
+      (subst (λ h. Admits criteria no_front h (Opens (behind_commits no_front (commits_of bodies)))) (sym lists) (admits_all welcome answers criteria is_former bodies 38 splits.follow sound_too))
 
--- commits that an image reads as may follow one another
-pub read_follow : (digest image : List ℕ) (commits : List Commit) → ReadsAs digest image (Holds (gated commits)) → EachAfter IsNextCommit [] commits
-read_follow digest image commits (inl fresh) = subst (EachAfter IsNextCommit []) (sym (same_gated commits [] fresh.1)) tt
-read_follow digest image commits (inr held) = subst (EachAfter IsNextCommit []) (sym (same_gated commits held.0 held.5)) held.3.follow
-
-pub sound_opens : AreWelcome → HaveOneAnswer → (criteria : Criteria) (commits : List Commit) (image : List ℕ) → ReadsAs criteria.digest image (Holds (gated commits)) →
+pub sound_opens : AreWelcome → HaveOneAnswer → (criteria : Criteria) (commits : List Commit) (image : List ℕ) → HoldsCommits criteria.digest image commits →
     AreSound criteria (behind_commits no_front commits).graph_id (behind_commits no_front commits).commands → OpensAs criteria image (Opens (behind_commits no_front commits))
-sound_opens welcome answers criteria commits image reads sound =
-    record { reading = Holds (gated commits); reads = reads; opens = admits_all welcome answers criteria commits 38 (read_follow criteria.digest image commits reads) sound }
+sound_opens welcome answers criteria commits image (held, reads, same) sound =
+    record {
+      reading = Holds held;
+      reads = reads;
+      opens = subst (λ l. Admits criteria no_front held (Opens (behind_commits no_front l))) same
+          (held_opens welcome answers criteria image held reads (subst (λ l. AreSound criteria (behind_commits no_front l).graph_id (behind_commits no_front l).commands) (sym same) sound));
+    }
 
 -- ---- an image opens to one thing
 

@@ -8,8 +8,7 @@ use Rattle.braid_run.specs.States.{Held}
 use Rattle.command.specs.Closed.{IsClosed}
 use Rattle.command.specs.declared.command.Command.{Command}
 use Rattle.journal.specs.Calls.{failed_after, journal_disk, journal_failed, journal_outline}
-use Rattle.journal.specs.Commits.{gated}
-use Rattle.journal.specs.Images.{Holds, ReadsAs}
+use Rattle.journal.specs.Images.{Holds, ReadsAs, ungated}
 use Rattle.journal.specs.Journal.{AreOf, IsSettled, OpenWrites, Opens as JournalOpens, StaysSettled, WasOrReadsAlike}
 use Rattle.journal.specs.declared.commit.Commit.{Commit}
 use Rattle.journal.specs.declared.fault.OpenFault.{OpenFault}
@@ -139,7 +138,7 @@ module _ {D : Type 0} (sense : Sense D) (faults : D → ℕ) (last_step : D → 
   pub reopens_led : (items : List (ℕ × Commit)) (held : Held) (adopted : Journal D) (count : ℕ) → journal_disk adopted ≡ journal_disk journal → AreOf (journal_outline adopted) items → journal_failed adopted ≡ false →
       IsLedTo criteria items held → count ≡ length held.commands → sense.honest (journal_disk journal) ≡ sense.honest (journal_disk old.journal) →
       (IsTrue sense.tells → ReadsAs criteria.digest before.reads (Holds items)) →
-      (IsTrue sense.tells → IsTrue (sense.honest (journal_disk old.journal)) → (commits : List Commit) × IsSettled after (journal_outline adopted) criteria.digest commits × (items ≡ gated commits)) →
+      (IsTrue sense.tells → IsTrue (sense.honest (journal_disk old.journal)) → (commits : List Commit) × IsSettled after (journal_outline adopted) criteria.digest commits × (ungated items ≡ commits)) →
       faults (journal_disk old.journal) ≤ faults (journal_disk journal) → Reopens criteria sense faults last_step old (Ok count) (record { held = held; down = None; journal = adopted })
   reopens_led items held adopted count same are works led counts honesty holds settled later = record {
     ends = (counts, led.sound, led.replica, refl);

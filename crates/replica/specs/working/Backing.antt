@@ -3,8 +3,7 @@ use Rattle.std.specs.Prelude.{◌≡◌, ◌⊎◌, ℕ, false, IsTrue, List, �
 use Rattle.std.specs.Option.{is_none}
 use Rattle.braid_run.specs.States.{Held}
 use Rattle.journal.specs.Calls.{journal_disk, journal_failed, journal_outline}
-use Rattle.journal.specs.Commits.{gated}
-use Rattle.journal.specs.Images.{ReadsAs, Holds}
+use Rattle.journal.specs.Images.{HoldsCommits}
 use Rattle.journal.specs.Journal.{IsSettled}
 use Rattle.journal.specs.Outline.{Outline}
 use Rattle.journal.specs.declared.commit.Commit.{Commit}
@@ -22,7 +21,7 @@ LeadTo commits held = behind_commits no_front commits ≡ front_of held
 -- The image reads as these commits, or as these and the loose one.
 abbrev pub ReadsLoose : List ℕ → List Commit → Option Commit → List ℕ → Type 0
 ReadsLoose digest commits loose image =
-    ReadsAs digest image (Holds (gated commits)) ⊎ ((commit : Commit) × (loose ≡ Some commit) × ReadsAs digest image (Holds (gated (commits ++ commit ∷ []))))
+    HoldsCommits digest image commits ⊎ ((commit : Commit) × (loose ≡ Some commit) × HoldsCommits digest image (commits ++ commit ∷ []))
 
 -- While a replica is up, its disk is settled with its commits. While it is down, a crash leaves these commits, or them and the loose one.
 abbrev pub IsHeldBy : Content → Outline → List ℕ → Held → Option Down → Type 0

@@ -3,8 +3,7 @@ use Rattle.std.specs.Prelude.{◌≡◌, ◌⊎◌, ℕ, false, IsTrue, List, �
 use Rattle.braid_run.specs.Soundness.{AreSound, Criteria}
 use Rattle.braid_run.specs.States.{Held}
 use Rattle.journal.specs.Calls.{journal_disk, journal_failed, journal_outline}
-use Rattle.journal.specs.Commits.{gated}
-use Rattle.journal.specs.Images.{ReadsAs, Holds}
+use Rattle.journal.specs.Images.{HoldsCommits}
 use Rattle.journal.specs.Journal.{IsBeforeOrAfter, IsSettled}
 use Rattle.journal.specs.Outline.{Outline, outline_behind}
 use Rattle.journal.specs.declared.commit.Commit.{Commit}
@@ -26,14 +25,14 @@ use Rattle.replica.specs.working.Backing.{IsBacked, LeadTo, ReadsLoose}
 -- An image that reads as commits opens to what they lead to, where that is sound.
 abbrev pub OpensSound : Type 0
 OpensSound =
-    (criteria : Criteria) (commits : List Commit) (image : List ℕ) → ReadsAs criteria.digest image (Holds (gated commits))
+    (criteria : Criteria) (commits : List Commit) (image : List ℕ) → HoldsCommits criteria.digest image commits
     → AreSound criteria (behind_commits no_front commits).graph_id (behind_commits no_front commits).commands → OpensAs criteria image (Opens (behind_commits no_front commits))
 
 -- What a crash leaves of a settled journal reads as its commits.
 abbrev pub SurvivesSettled : Type 0
 SurvivesSettled =
     (content : Content) (outline : Outline) (digest : List ℕ) (commits : List Commit) → IsSettled content outline digest commits → (image : List ℕ) → MayLeave content image
-    → ReadsAs digest image (Holds (gated commits))
+    → HoldsCommits digest image commits
 
 -- ---- what a call changes of a replica: what is held, whether it is down, and the journal
 
