@@ -67,7 +67,9 @@ outline_push is_former bodies it =
     omega (arith, ap length (records_push bodies it), length-append (records bodies) (open_record (body_bytes it)), record_size it) in
     let count : command_count (commits_of bodies) + count_of (commit_of it) ≡ command_count (commits_of (bodies ++ it ∷ [])) =
     sym (count_push (commits_of bodies) (commit_of it)) ∙ ap command_count (sym (commits_push bodies it)) in
-    rw (gate, count, sym (none_push bodies it), sym (former_push is_former bodies it)) refl
+    let fresh : false ≡ has_none (commits_of (bodies ++ it ∷ [])) =
+    sym (ap has_none (commits_push bodies it) ∙ none_push (commits_of bodies) (commit_of it)) in
+    rw (gate, count, fresh, sym (former_push is_former bodies it)) refl
 
 pub gates_push : (is_former : Bool) (bodies : List Body) (it : Body) → gated (bodies ++ it ∷ []) ≡ gated bodies ++ ((outline_of is_former bodies).gate, commit_of it) ∷ []
 gates_push is_former bodies it = gated_push first_gate bodies it

@@ -132,7 +132,7 @@ pub record IsNext (is_former : Bool) (before : List Body) (it : Body) : Type 0 w
   pub form : IsCommitForm (commit_of it)
   pub number : HasNumber it
   pub short : length (body_bytes it) < 2 ^ 32
-  pub place : MayStand (has_none before) (takes_former is_former before) (command_count (commits_of before)) it
+  pub place : MayStand (has_none (commits_of before)) (takes_former is_former before) (command_count (commits_of before)) it
 
 -- the bodies of a journal
 abbrev pub AreBodies : Bool → List Body → Type 0

@@ -17,7 +17,7 @@ abbrev pub outline_of : Bool → List Body → Outline
 outline_of is_former bodies = record {
   gate = first_gate + length (records bodies);
   commands = command_count (commits_of bodies);
-  is_fresh = has_none bodies;
+  is_fresh = has_none (commits_of bodies);
   takes_former = takes_former is_former bodies;
 }
 
