@@ -1,10 +1,13 @@
 -- Opening leaves what stands on a disk where a journal was begun.
-use Rattle.std.proofs.Common.{◌≡◌, ◌≢◌, ◌∙◌, ap, sym, subst, inl, inr, ℕ, ◌<◌, List, length, slice_index}
+use Rattle.std.proofs.Common.{◌≡◌, ◌≢◌, ◌∙◌, ap, sym, subst, inl, inr, ℕ, ◌<◌, List, length, slice_index, Err}
 use Rattle.outside.specs.Disk.{Content, after_sync, at_rest}
 use Rattle.journal.specs.Images.{IsBegun, Splits}
-use Rattle.journal.specs.Journal.{IsSettled, StaysSettled}
+use Rattle.journal.specs.Journal.{IsSettled, Opens, StaysSettled}
 use Rattle.journal.specs.Outline.{Outline}
+use Rattle.journal.specs.working.Opening.{Finds}
 use Rattle.journal.specs.declared.commit.Commit.{Commit}
+use Rattle.journal.specs.declared.fault.OpenFault.{OpenFault}
+use Rattle.journal.specs.declared.fault.OpenFault.TheVariants as fault
 use Rattle.journal.proofs.OneReading.{not_fresh, split_begun}
 
 -- a journal that is settled was begun
@@ -37,3 +40,10 @@ not_short image is short = not_fresh image (inl short) is
 
 pub not_shut : (image : List ℕ) → IsBegun image → slice_index image 0 ≢ 1 → ⊥
 not_shut image is shut = not_fresh image (inr shut) is
+
+-- what was found wrong is what opening answers
+pub finds_opens : {X : Type 0} (error : OpenFault) (digest image : List ℕ) → Finds digest image (Err error) → Opens {X} digest image (Err error)
+finds_opens (fault.Damaged offset) digest image is = is
+finds_opens (fault.OtherPolicy other) digest image is = is
+finds_opens (fault.DiskFault step) digest image is = is
+finds_opens fault.NoMemory digest image is = is

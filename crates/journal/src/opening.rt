@@ -1,5 +1,5 @@
 // A journal is opened: what the disk holds is read, or a journal is begun.
-ghost use Rattle.std.specs.Prelude.{◌≡◌, [], IsTrue, IfOk, IfErr, IsOk, IsErr, List};
+ghost use Rattle.std.specs.Prelude.{◌≡◌, [], false, IsTrue, IfOk, IfErr, IsOk, IsErr, List};
 ghost use Rattle.outside.specs.Crashes.{LeavesOnly};
 ghost use Rattle.journal.specs.declared.commit.Commit.{Commit};
 ghost use Rattle.journal.specs.Images.{IsBegun, ungated};

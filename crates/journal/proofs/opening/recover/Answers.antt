@@ -110,3 +110,19 @@ pub returns-then-is_err-clause-stays : goal.returns-then-is_err-clause-stays
 returns-then-is_err-clause-stays g c = λ told honest.
     let same : g.D.Disk.content c.sync.new.self ≡ g.D.Disk.content c.args.disk.now = search rules in
     stays_same (g.D.Disk.content c.args.disk.now) _ same
+
+pub returns-in_err-end-clause-opens : goal.returns-in_err-end-clause-opens
+returns-in_err-end-clause-opens g c = λ told.
+    let p = err_from_is_err_and c.from_residual.result c.from_residual.ensures.1 in
+    let found : Finds c.args.digest.now (g.D.Disk.content c.args.disk.now).reads (Err c.in_err-end.field-0.0) = rw (c.sync.ensures.reads told) at (c.in_err-end.ensures.found told) in
+    rw (p.1, p.2) (finds_opens c.in_err-end.field-0.0 c.args.digest.now (g.D.Disk.content c.args.disk.now).reads found)
+
+pub returns-in-Held-clause-settled : goal.returns-in-Held-clause-settled
+returns-in-Held-clause-settled g c = λ told honest.
+    let entry = g.D.Disk.content c.args.disk.now in
+    let old = g.D.Disk.content c.find.new.disk in
+    let done : g.D.Disk.content c.sync.new.self ≡ after_sync entry = search rules in
+    let same : old ≡ after_sync entry = c.find.ensures.disk.kept.same told (c.sync.ensures.honest ∙ honest) ∙ done in
+    let once = settled_once c.args.digest.now entry old (g.met.D.Disk.reads_image c.args.disk.now told honest) same in
+    let held : IsHeld c.args.digest.now old.reads c.in-Held.end c.in-Held.commits.items = rw (c.find.ensures.disk.kept.reads told) (rw c.in-Held.is at (c.in_ok-end.ensures.found told)) in
+    held_settled c.args.digest.now old c.in-Held.end c.in-Held.commits.items held once.2

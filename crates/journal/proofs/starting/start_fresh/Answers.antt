@@ -1,4 +1,4 @@
-use Rattle.std.proofs.Common.{◌++◌, ◌∷◌, []}
+use Rattle.std.proofs.Common.{false, ◌++◌, ◌∷◌, []}
 use Rattle.std.specs.Int.{w32}
 use Rattle.base_bytes.specs.Pieces.{counted}
 use Rattle.journal.specs.Commits.{policy_body}
