@@ -6,6 +6,7 @@ use Rattle.journal.specs.Journal.{IsSettled, Opens, StaysSettled}
 use Rattle.journal.specs.Outline.{Outline}
 use Rattle.journal.specs.working.Opening.{Finds}
 use Rattle.journal.specs.declared.commit.Commit.{Commit}
+use Rattle.journal.specs.declared.end.End.{End}
 use Rattle.journal.specs.declared.fault.OpenFault.{OpenFault}
 use Rattle.journal.specs.declared.fault.OpenFault.TheVariants as fault
 use Rattle.journal.proofs.OneReading.{not_fresh, split_begun}
@@ -42,7 +43,7 @@ pub not_shut : (image : List ℕ) → IsBegun image → slice_index image 0 ≢ 
 not_shut image is shut = not_fresh image (inr shut) is
 
 -- what was found wrong is what opening answers
-pub finds_opens : {X : Type 0} (error : OpenFault) (digest image : List ℕ) → Finds digest image (Err error) → Opens {X} digest image (Err error)
+pub finds_opens : (error : OpenFault) (digest image : List ℕ) → Finds digest image (Err error) → Opens {X = End} digest image (Err error)
 finds_opens (fault.Damaged offset) digest image is = is
 finds_opens (fault.OtherPolicy other) digest image is = is
 finds_opens (fault.DiskFault step) digest image is = is

@@ -1,7 +1,9 @@
-use Rattle.std.proofs.Common.{rules, ◌≡◌, ◌≢◌, ◌∙◌, ◌<◌, length, slice_index}
+use Rattle.std.proofs.Common.{rules, ◌≡◌, ◌≢◌, ◌∙◌, ◌<◌, length, slice_index, Err, subst}
+use Rattle.std.proofs.lemmas.Result.{err_from_is_err_and}
 use Rattle.outside.specs.Disk.{after_sync}
-use Rattle.journal.proofs.Starts.{begun_answers, settled_once, starts_fresh, starts_short}
-use Rattle.journal.proofs.Stays.{not_short, not_shut, settled_begun, stays_same, stays_synced}
+use Rattle.journal.specs.working.Opening.{Finds, IsHeld}
+use Rattle.journal.proofs.Starts.{begun_answers, held_settled, settled_once, starts_fresh, starts_short}
+use Rattle.journal.proofs.Stays.{finds_opens, not_short, not_shut, settled_begun, stays_same, stays_synced}
 use Rattle.journal.proofs.opening.recover.Goals as goal
 
 pub returns-in_err-end-clause-any_moment : goal.returns-in_err-end-clause-any_moment
@@ -114,7 +116,8 @@ returns-then-is_err-clause-stays g c = λ told honest.
 pub returns-in_err-end-clause-opens : goal.returns-in_err-end-clause-opens
 returns-in_err-end-clause-opens g c = λ told.
     let p = err_from_is_err_and c.from_residual.result c.from_residual.ensures.1 in
-    let found : Finds c.args.digest.now (g.D.Disk.content c.args.disk.now).reads (Err c.in_err-end.field-0.0) = rw (c.sync.ensures.reads told) at (c.in_err-end.ensures.found told) in
+    let found : Finds c.args.digest.now (g.D.Disk.content c.args.disk.now).reads (Err c.in_err-end.field-0.0) =
+    subst (λ reads. Finds c.args.digest.now reads (Err c.in_err-end.field-0.0)) (c.sync.ensures.reads told) (c.in_err-end.ensures.found told) in
     rw (p.1, p.2) (finds_opens c.in_err-end.field-0.0 c.args.digest.now (g.D.Disk.content c.args.disk.now).reads found)
 
 pub returns-in-Held-clause-settled : goal.returns-in-Held-clause-settled
