@@ -28,7 +28,10 @@ fn a_journal_that_failed_is_opened_again(rt: HostRuntime) -> Result<(), Fail> {
     assert!(rt; journal.failed());
     journal.adopt(reopened);
     assert!(rt; !journal.failed());
-    assert!(rt; journal.into_disk().bytes().get(..39) == Some(journal_bytes(alloc, Version::Present, 0)?.as_slice()));
+    assert!(rt;
+        journal.into_disk().bytes().get(..39)
+            == Some(journal_bytes(alloc, Version::Present, 0)?.as_slice())
+    );
     Ok(())
 }
 

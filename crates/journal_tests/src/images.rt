@@ -9,10 +9,16 @@ fn a_journal_is_read(rt: HostRuntime) -> Result<(), Fail> {
         let bytes = journal_bytes(alloc, version, 2)?;
         let [_first, _second, _third, last] = gates(version);
         assert!(rt; bytes.len() == last + 1, "{version:?}");
-        assert!(rt; opened(alloc, bytes.as_slice(), DIGEST) == Ok(2), "{version:?}");
+        assert!(rt;
+            opened(alloc, bytes.as_slice(), DIGEST) == Ok(2),
+            "{version:?}"
+        );
         let other = opened(alloc, bytes.as_slice(), OTHER);
         let digest = base_bytes::Id::new(DIGEST);
-        assert!(rt; other == Err(OpenFault::OtherPolicy { digest }), "{version:?}");
+        assert!(rt;
+            other == Err(OpenFault::OtherPolicy { digest }),
+            "{version:?}"
+        );
     }
     Ok(())
 }
@@ -25,9 +31,13 @@ fn cut(version: Version, size: usize) -> Result<usize, OpenFault> {
     } else if size <= second {
         Err(OpenFault::Damaged { offset: 0 })
     } else if size <= third {
-        Err(OpenFault::Damaged { offset: second as u64 })
+        Err(OpenFault::Damaged {
+            offset: second as u64,
+        })
     } else if size <= last {
-        Err(OpenFault::Damaged { offset: third as u64 })
+        Err(OpenFault::Damaged {
+            offset: third as u64,
+        })
     } else {
         Ok(2)
     }
@@ -86,7 +96,9 @@ fn a_wrong_number_of_commands_before_is_damage(rt: HostRuntime) -> Result<(), Fa
             }
             assert!(rt;
                 opened(alloc, bytes.as_slice(), DIGEST)
-                    == Err(OpenFault::Damaged { offset: gate as u64 }),
+                    == Err(OpenFault::Damaged {
+                        offset: gate as u64
+                    }),
                 "{version:?} raised at {place}"
             );
         }

@@ -83,7 +83,11 @@ pub fn journal_bytes(
 
 /// The journal of the init and of a command in the former form behind one that counts.
 pub fn turned_back(alloc: Global, policy_is_former: bool) -> Result<Vec<u8>, NoMemory> {
-    let policy = if policy_is_former { FORMER_POLICY } else { POLICY };
+    let policy = if policy_is_former {
+        FORMER_POLICY
+    } else {
+        POLICY
+    };
     joined(alloc, policy, COUNTED_INIT, FORMER_PUT, 2)
 }
 
