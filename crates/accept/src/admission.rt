@@ -75,11 +75,11 @@ pub fn admit_in<R: Runner, G: Graph, F: FactBase, E: Envelope, L: Ledger>(
 ) -> Result<Admit, NoMemory>
     requires formed { IsInForm command.now }
     requires in_line { AreInLine (G.commands graph.now) }
-    ensures admission { IfOk result (IsAdmission (record { policy = R.rules runner.now; digest = digest.now; good = E.good }) graph_id.now (G.commands graph.now) command.now) }
+    ensures admission { IfOk result (IsAdmission (record { policy = R.rules runner.now; digest = digest.now; good = E.seen.good }) graph_id.now (G.commands graph.now) command.now) }
     ensures ticks { OnOk result ((braid : List TheCommand) → IsBraidOf (G.commands graph.now) (IsBehind (G.commands graph.now) command.now) braid
-        → steps.new ≡ steps.old + admission_ticks (record { policy = R.rules runner.now; digest = digest.now; good = E.good }) graph_id.now (G.commands graph.now) command.now braid) }
+        → steps.new ≡ steps.old + admission_ticks (record { policy = R.rules runner.now; digest = digest.now; good = E.seen.good }) graph_id.now (G.commands graph.now) command.now braid) }
     ensures at_most { (braid : List TheCommand) → IsBraidOf (G.commands graph.now) (IsBehind (G.commands graph.now) command.now) braid
-        → steps.new ≤ steps.old + admission_ticks (record { policy = R.rules runner.now; digest = digest.now; good = E.good }) graph_id.now (G.commands graph.now) command.now braid }
+        → steps.new ≤ steps.old + admission_ticks (record { policy = R.rules runner.now; digest = digest.now; good = E.seen.good }) graph_id.now (G.commands graph.now) command.now braid }
 {
     let id = id_of(command);
     match graph.place_of(&id) {
@@ -108,11 +108,11 @@ pub fn admit<R: Runner, G: Graph, F: FactBase, E: Envelope, L: Ledger>(
     steps: &mut Steps<L>,
 ) -> Result<Admit, NoMemory>
     requires formed { IsInForm command.now }
-    ensures admission { IfOk result (IsAdmission (record { policy = R.rules runner.now; digest = digest.now; good = E.good }) state.now.held.graph_id state.now.held.commands command.now) }
+    ensures admission { IfOk result (IsAdmission (record { policy = R.rules runner.now; digest = digest.now; good = E.seen.good }) state.now.held.graph_id state.now.held.commands command.now) }
     ensures ticks { OnOk result ((braid : List TheCommand) → IsBraidOf state.now.held.commands (IsBehind state.now.held.commands command.now) braid
-        → steps.new ≡ steps.old + admission_ticks (record { policy = R.rules runner.now; digest = digest.now; good = E.good }) state.now.held.graph_id state.now.held.commands command.now braid) }
+        → steps.new ≡ steps.old + admission_ticks (record { policy = R.rules runner.now; digest = digest.now; good = E.seen.good }) state.now.held.graph_id state.now.held.commands command.now braid) }
     ensures at_most { (braid : List TheCommand) → IsBraidOf state.now.held.commands (IsBehind state.now.held.commands command.now) braid
-        → steps.new ≤ steps.old + admission_ticks (record { policy = R.rules runner.now; digest = digest.now; good = E.good }) state.now.held.graph_id state.now.held.commands command.now braid }
+        → steps.new ≤ steps.old + admission_ticks (record { policy = R.rules runner.now; digest = digest.now; good = E.seen.good }) state.now.held.graph_id state.now.held.commands command.now braid }
 {
     let graph = state.graph();
     let answer = admit_in::<R, G, F, E, L>(

@@ -117,7 +117,7 @@ fn early_reason<R: Runner, G: Graph, E: Envelope>(
 ) -> Result<Early, NoMemory>
     requires formed { IsInForm command.now }
     requires id { id.now ≡ command_id command.now }
-    ensures { IfOk result (IsEarly (record { policy = R.rules runner.now; digest = digest.now; good = E.good }) graph_id.now (G.commands graph.now) command.now) }
+    ensures { IfOk result (IsEarly (record { policy = R.rules runner.now; digest = digest.now; good = E.seen.good }) graph_id.now (G.commands graph.now) command.now) }
 {
     if let Some(reason) = misplaced(alloc, digest, graph_id, graph, command, id)? {
         return Ok(Early::Against(reason));
@@ -234,11 +234,11 @@ pub fn reason_against<R: Runner, G: Graph, F: FactBase, E: Envelope, L: Ledger>(
     requires formed { IsInForm command.now }
     requires id { id.now ≡ command_id command.now }
     requires in_line { AreInLine (G.commands graph.now) }
-    ensures reason { IfOk result (IsReason (record { policy = R.rules runner.now; digest = digest.now; good = E.good }) graph_id.now (G.commands graph.now) command.now) }
+    ensures reason { IfOk result (IsReason (record { policy = R.rules runner.now; digest = digest.now; good = E.seen.good }) graph_id.now (G.commands graph.now) command.now) }
     ensures ticks { OnOk result ((braid : List TheCommand) → IsBraidOf (G.commands graph.now) (IsBehind (G.commands graph.now) command.now) braid
-        → steps.new ≡ steps.old + new_ticks (record { policy = R.rules runner.now; digest = digest.now; good = E.good }) graph_id.now (G.commands graph.now) command.now braid) }
+        → steps.new ≡ steps.old + new_ticks (record { policy = R.rules runner.now; digest = digest.now; good = E.seen.good }) graph_id.now (G.commands graph.now) command.now braid) }
     ensures at_most { (braid : List TheCommand) → IsBraidOf (G.commands graph.now) (IsBehind (G.commands graph.now) command.now) braid
-        → steps.new ≤ steps.old + new_ticks (record { policy = R.rules runner.now; digest = digest.now; good = E.good }) graph_id.now (G.commands graph.now) command.now braid }
+        → steps.new ≤ steps.old + new_ticks (record { policy = R.rules runner.now; digest = digest.now; good = E.seen.good }) graph_id.now (G.commands graph.now) command.now braid }
 {
     match early_reason(alloc, runner, digest, graph_id, graph, command, id, env)? {
         Early::Against(reason) => Ok(Some(reason)),

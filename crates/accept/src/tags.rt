@@ -15,7 +15,7 @@ fn opens<E: Envelope>(
     tag: &Tag,
 ) -> Result<bool, NoMemory>
     requires formed { IsInForm command.now }
-    ensures { IfOk result (λ is. is ≡ E.good author.now (body command.now) tag.now) }
+    ensures { IfOk result (λ is. is ≡ E.seen.good author.now (body command.now) tag.now) }
 {
     let body = body_of(alloc, command)?;
     Ok(env.opens(author, body.as_slice(), tag))
@@ -28,7 +28,7 @@ pub fn has_good_tag<E: Envelope>(
     command: &Command,
 ) -> Result<bool, NoMemory>
     requires formed { IsInForm command.now }
-    ensures { IfOk result (λ is. is ≡ has_good_tag E.good command.now) }
+    ensures { IfOk result (λ is. is ≡ has_good_tag E.seen.good command.now) }
 {
     match command {
         Command::Init { author, tag, .. } => opens(alloc, env, command, author, tag),

@@ -6,10 +6,11 @@ use Rattle.std.specs.List.{AllByRecursion, concat}
 use Rattle.outside.specs.Files.{Holding}
 use Rattle.journal.specs.declared.fault.OpenFault.{OpenFault}
 use Rattle.policy_ast.specs.declared.policy.PlacedItem.{PlacedItem}
-use Rattle.replica.specs.Disks.{Sense}
+use Rattle.outside.specs.Disk.{DiskView}
 use Rattle.script.specs.declared.line.Line.{Line}
 use Rattle.world.specs.Crashes.{AreSafe, IsOpenedOn, IsWhyNot, OpenAtEachMoment, OpenWhole}
-use Rattle.world.specs.Lines.{Runs, Tags}
+use Rattle.world.specs.Lines.{Runs}
+use Rattle.outside.specs.Envelope.{EnvelopeView}
 use Rattle.world.specs.Stops.{Acts, IsFront, LeavesFront}
 use Rattle.world.specs.Worlds.{AreUp, Site, disks_of}
 use Rattle.world.specs.declared.stop.RunStop.{RunStop}
@@ -100,14 +101,14 @@ beside A same result old new is goes = record { texts = goes.texts; is = (goes.i
 
 -- ---- lines
 
-module _ {D : Type 0} (tags : Tags) (first : Site D) (lines : List Line) (old : Option (List ℕ)) where
+module _ {D : Type 0} (tags : EnvelopeView) (first : Site D) (lines : List Line) (old : Option (List ℕ)) where
   -- lines at the front ran, their texts were printed, and these lines are left
   pub record SoFar (left : List Line) (now : Site D) (seen : Option (List ℕ)) : Type 0 where
     pub texts : List (List ℕ)
     pub up_to : RanUpTo tags first lines left texts now
     pub printed : seen ≡ append_known old (concat texts)
 
-module _ {D : Type 0} (tags : Tags) (first : Site D) (lines : List Line) (old : Option (List ℕ)) where
+module _ {D : Type 0} (tags : EnvelopeView) (first : Site D) (lines : List Line) (old : Option (List ℕ)) where
   pub lines_begin : SoFar tags first lines old lines first old
   lines_begin = record { texts = []; up_to = record { done = []; whole = refl; ran = scripts.none }; printed = sym (append_none old) }
 
@@ -128,9 +129,9 @@ module _ {D : Type 0} (tags : Tags) (first : Site D) (lines : List Line) (old : 
     printed = wrote_piece so_far.texts text old seen new so_far.printed more;
   }
 
-module _ {D : Type 0} (sense : Sense D) (tags : Tags) (first : Site D) (lines : List Line) (old : Option (List ℕ)) where
+module _ {D : Type 0} (view : DiskView D) (tags : EnvelopeView) (first : Site D) (lines : List Line) (old : Option (List ℕ)) where
   pub line_broken : (one : Line) (behind : List Line) (text : List ℕ) (mid now : Site D) (seen new : Option (List ℕ)) → SoFar tags first lines old (one ∷ behind) mid seen → Runs tags mid one text now →
-      LeavesDisks sense tags first lines now (disks_of now) → WritesFront text seen new → Goes (RunsIn sense tags first lines now) (Err halt.Write) old new
+      LeavesDisks view tags first lines now (disks_of now) → WritesFront text seen new → Goes (RunsIn view tags first lines now) (Err halt.Write) old new
   line_broken one behind text mid now seen new so_far runs left front = record {
     texts = so_far.texts ++ text ∷ [];
     is = ((behind, one_more tags first lines old one behind so_far.texts text mid now so_far.up_to runs), left);
@@ -142,30 +143,30 @@ module _ {D : Type 0} (sense : Sense D) (tags : Tags) (first : Site D) (lines : 
   quiet texts done seen new none printed so_far = printed ∙ ap (λ ts. append_known seen (concat ts)) none ∙ append_none seen ∙ so_far
 
   pub line_stopped : (one : Line) (behind : List Line) (mid now : Site D) (seen new : Option (List ℕ)) (by : RunStop) (result : Result Ending Halt) → SoFar tags first lines old (one ∷ behind) mid seen →
-      LeavesDisks sense tags first lines now (disks_of now) → LeavesFront tags mid one now → OpenAtEachMoment sense tags.good (IsFront tags mid one) mid.replicas now.replicas → (by ≡ stop.DiskFault → IsDown one now.replicas) → (by ≡ stop.SealFault → Acts one) → ((name : List ℕ) (cause : OpenFault) → by ≡ stop.Journal name cause → ⊥) →
-      Goes (EndsBy by) result seen new → Goes (RunsIn sense tags first lines now) result old new
+      LeavesDisks view tags first lines now (disks_of now) → LeavesFront tags mid one now → OpenAtEachMoment view tags.good (IsFront tags mid one) mid.replicas now.replicas → (by ≡ stop.DiskFault → IsDown one now.replicas) → (by ≡ stop.SealFault → Acts one) → ((name : List ℕ) (cause : OpenFault) → by ≡ stop.Journal name cause → ⊥) →
+      Goes (EndsBy by) result seen new → Goes (RunsIn view tags first lines now) result old new
   line_stopped one behind mid now seen new stop.DiskFault result so_far left front moments down acts journals goes =
-      subst (λ r. Goes (RunsIn sense tags first lines now) r old new) (sym goes.is.0) (record {
+      subst (λ r. Goes (RunsIn view tags first lines now) r old new) (sym goes.is.0) (record {
         texts = so_far.texts;
         is = ((one, down refl, record { behind = behind; mid = mid; up_to = so_far.up_to; front = front; moments = moments }), left);
         printed = quiet goes.texts so_far.texts seen new goes.is.1 (subst (λ r. Prints r goes.texts seen new) goes.is.0 goes.printed) so_far.printed;
       })
   line_stopped one behind mid now seen new stop.SealFault result so_far left front moments down acts journals goes =
-      subst (λ r. Goes (RunsIn sense tags first lines now) r old new) (sym goes.is.0) (record {
+      subst (λ r. Goes (RunsIn view tags first lines now) r old new) (sym goes.is.0) (record {
         texts = so_far.texts;
         is = ((one, acts refl, record { behind = behind; mid = mid; up_to = so_far.up_to; front = front; moments = moments }), left);
         printed = quiet goes.texts so_far.texts seen new goes.is.1 (subst (λ r. Prints r goes.texts seen new) goes.is.0 goes.printed) so_far.printed;
       })
   line_stopped one behind mid now seen new (stop.Journal name cause) result so_far left front moments down acts journals goes = absurd (journals name cause refl)
   line_stopped one behind mid now seen new stop.NoMemory result so_far left front moments down acts journals goes =
-      subst (λ r. Goes (RunsIn sense tags first lines now) r old new) (sym goes.is.0) (record {
+      subst (λ r. Goes (RunsIn view tags first lines now) r old new) (sym goes.is.0) (record {
         texts = so_far.texts;
         is = ((one, record { behind = behind; mid = mid; up_to = so_far.up_to; front = front; moments = moments }), left);
         printed = quiet goes.texts so_far.texts seen new goes.is.1 (subst (λ r. Prints r goes.texts seen new) goes.is.0 goes.printed) so_far.printed;
       })
 
-  pub lines_done : (behind : List Line) (now : Site D) (seen : Option (List ℕ)) → behind ≡ [] → AreUp now.replicas → LeavesDisks sense tags first lines now (disks_of now) → SoFar tags first lines old behind now seen →
-      Goes (RunsIn sense tags first lines now) (Ok ending.Done) old seen
+  pub lines_done : (behind : List Line) (now : Site D) (seen : Option (List ℕ)) → behind ≡ [] → AreUp now.replicas → LeavesDisks view tags first lines now (disks_of now) → SoFar tags first lines old behind now seen →
+      Goes (RunsIn view tags first lines now) (Ok ending.Done) old seen
   lines_done behind now seen none up left so_far =
       record { texts = so_far.texts; is = ((refl, subst (λ l. RanUpTo tags first lines l so_far.texts now) none so_far.up_to, up), left); printed = so_far.printed }
 
@@ -184,20 +185,20 @@ printed_as t u old new same printed = printed ∙ ap (append_known old) same
 
 -- ---- the world that is opened
 
-module _ {D : Type 0} (sense : Sense D) (tags : Tags) (policy : List PlacedItem) (digest : List ℕ) (disks : List D) (lines : List Line) where
+module _ {D : Type 0} (view : DiskView D) (tags : EnvelopeView) (policy : List PlacedItem) (digest : List ℕ) (disks : List D) (lines : List Line) where
   -- the lines ran in the world that was opened
-  pub opened_goes : (first now : Site D) (left : List D) (result : Result Ending Halt) (old new : Option (List ℕ)) → IsOpenedOn sense tags.good policy digest (names_of lines) disks first →
-      OpenWhole sense tags.good policy digest disks (disks_of first) → AreSafe sense tags.good first.replicas → left ≡ disks_of now → Goes (RunsIn sense tags first lines now) result old new →
-      Goes (λ r ts. RunsOpened sense tags policy digest disks lines r ts left) result old new
+  pub opened_goes : (first now : Site D) (left : List D) (result : Result Ending Halt) (old new : Option (List ℕ)) → IsOpenedOn view tags.good policy digest (names_of lines) disks first →
+      OpenWhole view tags.good policy digest disks (disks_of first) → AreSafe view tags.good first.replicas → left ≡ disks_of now → Goes (RunsIn view tags first lines now) result old new →
+      Goes (λ r ts. RunsOpened view tags policy digest disks lines r ts left) result old new
   opened_goes first now left result old new opened whole safe same goes = record {
     texts = goes.texts;
-    is = inr (inr (first, now, opened, whole, safe, goes.is.0, subst (LeavesDisks sense tags first lines now) (sym same) goes.is.1));
+    is = inr (inr (first, now, opened, whole, safe, goes.is.0, subst (LeavesDisks view tags first lines now) (sym same) goes.is.1));
     printed = goes.printed;
   }
 
   -- it wasn't opened
-  pub unopened_goes : (why : RunStop) (left : List D) (result : Result Ending Halt) (old new : Option (List ℕ)) → IsWhyNot sense tags.good policy digest (names_of lines) disks why →
-      LeavesUnopened sense tags policy digest disks lines left → Goes (EndsBy why) result old new → Goes (λ r ts. RunsOpened sense tags policy digest disks lines r ts left) result old new
+  pub unopened_goes : (why : RunStop) (left : List D) (result : Result Ending Halt) (old new : Option (List ℕ)) → IsWhyNot view tags.good policy digest (names_of lines) disks why →
+      LeavesUnopened view tags policy digest disks lines left → Goes (EndsBy why) result old new → Goes (λ r ts. RunsOpened view tags policy digest disks lines r ts left) result old new
   unopened_goes stop.DiskFault left result old new why unopened goes =
       record { texts = goes.texts; is = inl (subst (λ r. HaltsAtOnce r goes.texts) (sym goes.is.0) goes.is.1, unopened); printed = goes.printed }
   unopened_goes stop.SealFault left result old new why unopened goes = absurd why
@@ -206,13 +207,13 @@ module _ {D : Type 0} (sense : Sense D) (tags : Tags) (policy : List PlacedItem)
       record { texts = goes.texts; is = inl (subst (λ r. HaltsAtOnce r goes.texts) (sym goes.is.0) goes.is.1, unopened); printed = goes.printed }
 
   -- there was no memory for opening it
-  pub lacks_at_once : (old : Option (List ℕ)) → Goes (λ r ts. RunsOpened sense tags policy digest disks lines r ts disks) (Err halt.Memory) old old
-  lacks_at_once old = record { texts = []; is = inl (refl, record { whole = whole_same sense tags.good policy digest disks; spare = refl }); printed = sym (append_none old) }
+  pub lacks_at_once : (old : Option (List ℕ)) → Goes (λ r ts. RunsOpened view tags policy digest disks lines r ts disks) (Err halt.Memory) old old
+  lacks_at_once old = record { texts = []; is = inl (refl, record { whole = whole_same view tags.good policy digest disks; spare = refl }); printed = sym (append_none old) }
 
 -- the same policy and disks under other names
-pub same_run : {D : Type 0} (sense : Sense D) (tags : Tags) (p q : List PlacedItem) (digest : List ℕ) (ds es left : List D) (lines : List Line) (result : Result Ending Halt) (old new : Option (List ℕ)) → p ≡ q → ds ≡ es →
-    (AllByRecursion (λ d. IsTrue (sense.honest d)) ds → Goes (λ r ts. RunsOpened sense tags p digest ds lines r ts left) result old new) → AllByRecursion (λ d. IsTrue (sense.honest d)) es →
-    Goes (λ r ts. RunsOpened sense tags q digest es lines r ts left) result old new
-same_run sense tags p q digest ds es left lines result old new same_policy same_disks goes honest =
-    subst (λ x. Goes (λ r ts. RunsOpened sense tags x digest es lines r ts left) result old new) same_policy
-    (subst (λ x. AllByRecursion (λ d. IsTrue (sense.honest d)) x → Goes (λ r ts. RunsOpened sense tags p digest x lines r ts left) result old new) same_disks goes honest)
+pub same_run : {D : Type 0} (view : DiskView D) (tags : EnvelopeView) (p q : List PlacedItem) (digest : List ℕ) (ds es left : List D) (lines : List Line) (result : Result Ending Halt) (old new : Option (List ℕ)) → p ≡ q → ds ≡ es →
+    (AllByRecursion (λ d. IsTrue (view.honest d)) ds → Goes (λ r ts. RunsOpened view tags p digest ds lines r ts left) result old new) → AllByRecursion (λ d. IsTrue (view.honest d)) es →
+    Goes (λ r ts. RunsOpened view tags q digest es lines r ts left) result old new
+same_run view tags p q digest ds es left lines result old new same_policy same_disks goes honest =
+    subst (λ x. Goes (λ r ts. RunsOpened view tags x digest es lines r ts left) result old new) same_policy
+    (subst (λ x. AllByRecursion (λ d. IsTrue (view.honest d)) x → Goes (λ r ts. RunsOpened view tags p digest x lines r ts left) result old new) same_disks goes honest)

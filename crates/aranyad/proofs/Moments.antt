@@ -6,18 +6,19 @@ use Rattle.std.specs.Str.Lines.{lines}
 use Rattle.journal.specs.declared.commit.Commit.{Commit}
 use Rattle.journal.specs.declared.fault.OpenFault.{OpenFault}
 use Rattle.outside.specs.Crashes.{IsLater, LeavesOnly, clock, moments}
-use Rattle.outside.specs.Disk.{Content, IsImage}
+use Rattle.outside.specs.Disk.{Content, DiskView, IsImage}
 use Rattle.outside.proofs.Crashes.{no_calls, told_before}
 use Rattle.policy_ast.specs.declared.policy.PlacedItem.{PlacedItem}
 use Rattle.replica.specs.Calls.{IsRefusedJournal}
-use Rattle.replica.specs.Disks.{OpensToOf, Sense}
+use Rattle.replica.specs.Disks.{OpensToOf}
 use Rattle.replica.specs.Fronts.{OpensAs, Opens, front_of}
 use Rattle.replica.specs.Kept.{Kept, criteria_of, loose_of}
 use Rattle.script.specs.Scripts.{IsScript, nothing_yet}
 use Rattle.script.specs.declared.line.Line.{Line}
 use Rattle.script.specs.declared.line.Line.TheVariants as line
 use Rattle.world.specs.Crashes.{AreOpened, AreSafe, IsOpenedOn, IsWhyNot, OpenAtEachMoment, OpenWhole, OpensIn, RefusesFirst}
-use Rattle.world.specs.Lines.{Tags, may_run}
+use Rattle.world.specs.Lines.{may_run}
+use Rattle.outside.specs.Envelope.{EnvelopeView}
 use Rattle.world.specs.Stops.{IsFront, IsSteady, OwnFalls, RefusesJournal, changed_name}
 use Rattle.world.specs.Worlds.{AreUp, Named, Site, disks_of, kept_of}
 use Rattle.world.specs.declared.stop.RunStop.{RunStop}
@@ -73,14 +74,14 @@ leaves_join old mid new P Q R one two first second = record {
   each = λ image left. ⊎_elim (λ before. one image (first.each image before)) (λ since. two image (second.each image since)) (told_before mid new second.later (clock old) image (clock_up old mid first.later) left);
 }
 
-module _ {D : Type 0} (sense : Sense D) (good : List ℕ → List ℕ → List ℕ → Bool) where
+module _ {D : Type 0} (view : DiskView D) (good : List ℕ → List ℕ → List ℕ → Bool) where
   -- the moments of two runs of lines join
   pub moments_join : (one two whole : List (Named D) → Type 0) (old mid new : List (Named D)) → map (λ (x : Named D). x.name) mid ≡ map (λ (x : Named D). x.name) old → ((rs : List (Named D)) → one rs → whole rs)
-      → ((rs : List (Named D)) → two rs → whole rs) → OpenAtEachMoment sense good one old mid → OpenAtEachMoment sense good two mid new → OpenAtEachMoment sense good whole old new
+      → ((rs : List (Named D)) → two rs → whole rs) → OpenAtEachMoment view good one old mid → OpenAtEachMoment view good two mid new → OpenAtEachMoment view good whole old new
   moments_join one two whole old mid new names first second before_mid since_mid = λ a before after was is.
       let there = kept_still old mid a before names was in
-      leaves_join (sense.content before.disk) (sense.content there.0.disk) (sense.content after.disk)
-      (λ image. (rs : List (Named D)) × one rs × OpensIn sense good rs a image) (λ image. (rs : List (Named D)) × two rs × OpensIn sense good rs a image) (λ image. (rs : List (Named D)) × whole rs × OpensIn sense good rs a image)
+      leaves_join (view.content before.disk) (view.content there.0.disk) (view.content after.disk)
+      (λ image. (rs : List (Named D)) × one rs × OpensIn view good rs a image) (λ image. (rs : List (Named D)) × two rs × OpensIn view good rs a image) (λ image. (rs : List (Named D)) × whole rs × OpensIn view good rs a image)
       (λ image opens. (opens.0, first opens.0 opens.1, opens.2)) (λ image opens. (opens.0, second opens.0 opens.1, opens.2))
       (before_mid a before there.0 was there.1) (since_mid a there.0 after there.1 is)
 
@@ -88,12 +89,12 @@ module _ {D : Type 0} (sense : Sense D) (good : List ℕ → List ℕ → List �
   not_loose kept commit up loose = let none : None ≡ Some commit = sym (ap loose_of up) ∙ loose in absurd cc
 
   -- what a disk of a replica that is up opens to is what it holds
-  opens_held : (kept : Kept D) (image : List ℕ) → kept.down ≡ None → OpensToOf good sense kept image → OpensAs (criteria_of good kept) image (Opens (front_of kept.held))
+  opens_held : (kept : Kept D) (image : List ℕ) → kept.down ≡ None → OpensToOf good view kept image → OpensAs (criteria_of good kept) image (Opens (front_of kept.held))
   opens_held kept image up opens =
       ⊎_elim (λ same. subst (λ front. OpensAs (criteria_of good kept) image (Opens front)) same opens.2) (λ loose. absurd (not_loose kept loose.0 up loose.1)) opens.1
 
   -- a restart is on a disk that is trusted
-  pub steady : (site : Site D) (one : Line) → AreSafe sense good site.replicas → may_run site one ≡ true → IsSteady sense good site.replicas one
+  pub steady : (site : Site D) (one : Line) → AreSafe view good site.replicas → may_run site one ≡ true → IsSteady view good site.replicas one
   steady site (line.Replica a) safe may = tt
   steady site (line.Init a f args) safe may = tt
   steady site (line.Join a b) safe may = tt
@@ -111,56 +112,56 @@ module _ {D : Type 0} (sense : Sense D) (good : List ℕ → List ℕ → List �
   steady site line.Blank safe may = tt
 
   -- no journal is refused there
-  pub not_refused : (replicas : List (Named D)) (one : Line) (name : List ℕ) (cause : OpenFault) → AreSafe sense good replicas → RefusesJournal sense good replicas one name cause → ⊥
+  pub not_refused : (replicas : List (Named D)) (one : Line) (name : List ℕ) (cause : OpenFault) → AreSafe view good replicas → RefusesJournal view good replicas one name cause → ⊥
   not_refused replicas one name cause safe (same, refused, (kept, is, (answers, untrusted))) = untrusted (safe name kept is).0
 
 -- ---- lines
 
-module _ {D : Type 0} (sense : Sense D) (tags : Tags) (first : Site D) (lines : List Line) where
+module _ {D : Type 0} (view : DiskView D) (tags : EnvelopeView) (first : Site D) (lines : List Line) where
   -- behind lines that ran, each disk is safe, and was at each moment
   pub record StandsAt (now : Site D) : Type 0 where
     pub names : map (λ (x : Named D). x.name) now.replicas ≡ map (λ (x : Named D). x.name) first.replicas
     pub spare : now.spare ≡ first.spare
-    pub safe : AreSafe sense tags.good now.replicas
-    pub moments : OpenAtEachMoment sense tags.good (IsReached tags first lines) first.replicas now.replicas
+    pub safe : AreSafe view tags.good now.replicas
+    pub moments : OpenAtEachMoment view tags.good (IsReached tags first lines) first.replicas now.replicas
 
-module _ {D : Type 0} (sense : Sense D) (tags : Tags) (first : Site D) (lines : List Line) where
+module _ {D : Type 0} (view : DiskView D) (tags : EnvelopeView) (first : Site D) (lines : List Line) where
   one_kept : (replicas : List (Named D)) (a : List ℕ) (before after : Kept D) → kept_of replicas a ≡ Some before → kept_of replicas a ≡ Some after → before ≡ after
   one_kept replicas a before after was is = cc
 
-  pub stands_first : AreSafe sense tags.good first.replicas → AreUp first.replicas → StandsAt sense tags first lines first
+  pub stands_first : AreSafe view tags.good first.replicas → AreUp first.replicas → StandsAt view tags first lines first
   stands_first safe up = record {
     names = refl;
     spare = refl;
     safe = safe;
     moments = λ a before after was is.
-        subst (λ (k : Kept D). LeavesOnly (sense.content before.disk) (sense.content k.disk) (λ image. (rs : List (Named D)) × IsReached tags first lines rs × OpensIn sense tags.good rs a image))
+        subst (λ (k : Kept D). LeavesOnly (view.content before.disk) (view.content k.disk) (λ image. (rs : List (Named D)) × IsReached tags first lines rs × OpensIn view tags.good rs a image))
         (one_kept first.replicas a before after was is)
-        (no_calls (sense.content before.disk) (λ image. (rs : List (Named D)) × IsReached tags first lines rs × OpensIn sense tags.good rs a image)
-        (λ image left. (first.replicas, inl refl, (before, was, opens_held sense tags.good before image (up_of first.replicas a before up was) ((safe a before was).1 image left)))));
+        (no_calls (view.content before.disk) (λ image. (rs : List (Named D)) × IsReached tags first lines rs × OpensIn view tags.good rs a image)
+        (λ image left. (first.replicas, inl refl, (before, was, opens_held view tags.good before image (up_of first.replicas a before up was) ((safe a before was).1 image left)))));
   }
 
-  pub stands_on : (one : Line) (behind : List Line) (texts : List (List ℕ)) (mid new : Site D) → RanUpTo tags first lines (one ∷ behind) texts mid → StandsAt sense tags first lines mid
+  pub stands_on : (one : Line) (behind : List Line) (texts : List (List ℕ)) (mid new : Site D) → RanUpTo tags first lines (one ∷ behind) texts mid → StandsAt view tags first lines mid
       → map (λ (x : Named D). x.name) new.replicas ≡ map (λ (x : Named D). x.name) mid.replicas → new.spare ≡ mid.spare
-      → (AreSafe sense tags.good mid.replicas → AreSafe sense tags.good new.replicas × OpenAtEachMoment sense tags.good (IsFront tags mid one) mid.replicas new.replicas) → StandsAt sense tags first lines new
+      → (AreSafe view tags.good mid.replicas → AreSafe view tags.good new.replicas × OpenAtEachMoment view tags.good (IsFront tags mid one) mid.replicas new.replicas) → StandsAt view tags first lines new
   stands_on one behind texts mid new up_to at names spare crash =
       let more = crash at.safe in
       record {
         names = names ∙ at.names;
         spare = spare ∙ at.spare;
         safe = more.0;
-        moments = moments_join sense tags.good (IsReached tags first lines) (IsFront tags mid one) (IsReached tags first lines) first.replicas mid.replicas new.replicas at.names
+        moments = moments_join view tags.good (IsReached tags first lines) (IsFront tags mid one) (IsReached tags first lines) first.replicas mid.replicas new.replicas at.names
             (λ rs is. is) (λ rs front. inr (one, behind, texts, mid, up_to, front)) at.moments more.1;
       }
 
-  pub leaves : (new : Site D) → ((disk : D) → IsTrue sense.tells → IsTrue (sense.honest disk) → IsImage (sense.content disk).now (sense.content disk).reads) → StandsAt sense tags first lines new
-      → LeavesDisks sense tags first lines new (disks_of new)
+  pub leaves : (new : Site D) → ((disk : D) → IsTrue view.tells → IsTrue (view.honest disk) → IsImage (view.content disk).now (view.content disk).reads) → StandsAt view tags first lines new
+      → LeavesDisks view tags first lines new (disks_of new)
   leaves new images at = record {
     same = refl;
     spare = at.spare;
     safe = at.safe;
     moments = at.moments;
-    reads = λ a kept is up. let safe = at.safe a kept is in opens_held sense tags.good kept (sense.content kept.disk).reads up (safe.1 (sense.content kept.disk).reads (images kept.disk safe.0.tells safe.0.honest));
+    reads = λ a kept is up. let safe = at.safe a kept is in opens_held view tags.good kept (view.content kept.disk).reads up (safe.1 (view.content kept.disk).reads (images kept.disk safe.0.tells safe.0.honest));
   }
 
 -- the replica of a line that its disk stopped is down
@@ -169,13 +170,13 @@ own_down faults one old new (a, before, after, named, was, is, falls) = (a, name
 
 -- ---- openings
 
-module _ {D : Type 0} (sense : Sense D) (good : List ℕ → List ℕ → List ℕ → Bool) (policy : List PlacedItem) (digest : List ℕ) where
+module _ {D : Type 0} (view : DiskView D) (good : List ℕ → List ℕ → List ℕ → Bool) (policy : List PlacedItem) (digest : List ℕ) where
   -- disks that were not used
-  pub whole_same : (disks : List D) → OpenWhole sense good policy digest disks disks
+  pub whole_same : (disks : List D) → OpenWhole view good policy digest disks disks
   whole_same [] = tt
-  whole_same (d ∷ ds) = (record { moments = no_calls (sense.content d) _ (λ image left. inl left); kept = λ begun. refl }, whole_same ds)
+  whole_same (d ∷ ds) = (record { moments = no_calls (view.content d) _ (λ image left. inl left); kept = λ begun. refl }, whole_same ds)
 
-  pub names_opened : (names : List (List ℕ)) (disks : List D) (replicas : List (Named D)) → AreOpened sense good policy digest names disks replicas → map (λ (x : Named D). x.name) replicas ≡ names
+  pub names_opened : (names : List (List ℕ)) (disks : List D) (replicas : List (Named D)) → AreOpened view good policy digest names disks replicas → map (λ (x : Named D). x.name) replicas ≡ names
   names_opened [] disks [] opened = refl
   names_opened [] disks (r ∷ rs) opened = absurd opened
   names_opened (name ∷ names) [] replicas opened = absurd opened
@@ -183,7 +184,7 @@ module _ {D : Type 0} (sense : Sense D) (good : List ℕ → List ℕ → List �
   names_opened (name ∷ names) (disk ∷ disks) (r ∷ rs) (same, kept, opens, others) = ap (λ n. n ∷ map (λ (x : Named D). x.name) rs) same ∙ ap (λ l. name ∷ l) (names_opened names disks rs others)
 
   -- the lines of a script may be run in the world of their names
-  pub world_follows : (script : List ℕ) (found : List Line) (names : List (List ℕ)) (disks : List D) (site : Site D) → IsScript script found → names ≡ names_of found → IsOpenedOn sense good policy digest names disks site
+  pub world_follows : (script : List ℕ) (found : List Line) (names : List (List ℕ)) (disks : List D) (site : Site D) → IsScript script found → names ≡ names_of found → IsOpenedOn view good policy digest names disks site
       → FollowIn site found
   world_follows script found names disks site read same opened = record {
     so_far = nothing_yet;
@@ -194,20 +195,20 @@ module _ {D : Type 0} (sense : Sense D) (good : List ℕ → List ℕ → List �
     messages = sym (ap length opened.none);
   }
 
-  refused_first : (names : List (List ℕ)) (disks : List D) (name : List ℕ) (cause : OpenFault) → RefusesFirst sense good policy digest names disks name cause → IsRefusedJournal cause
+  refused_first : (names : List (List ℕ)) (disks : List D) (name : List ℕ) (cause : OpenFault) → RefusesFirst view good policy digest names disks name cause → IsRefusedJournal cause
   refused_first [] disks name cause refuses = absurd refuses
   refused_first (n ∷ names) [] name cause refuses = absurd refuses
   refused_first (n ∷ names) (d ∷ disks) name cause refuses = ⊎_elim (λ here. here.1.0) (λ there. refused_first names disks name cause there.1) refuses
 
-  pub plain_opening : (names : List (List ℕ)) (disks : List D) (why : RunStop) → IsWhyNot sense good policy digest names disks why → IsPlainStop why
+  pub plain_opening : (names : List (List ℕ)) (disks : List D) (why : RunStop) → IsWhyNot view good policy digest names disks why → IsPlainStop why
   plain_opening names disks stop.DiskFault is = tt
   plain_opening names disks stop.SealFault is = tt
   plain_opening names disks (stop.Journal name cause) is = refused_first names disks name cause is
   plain_opening names disks stop.NoMemory is = tt
 
-pub plain_step : {D : Type 0} (sense : Sense D) (good : List ℕ → List ℕ → List ℕ → Bool) (replicas : List (Named D)) (one : Line) (why : RunStop)
-    → ((name : List ℕ) (cause : OpenFault) → why ≡ stop.Journal name cause → RefusesJournal sense good replicas one name cause) → IsPlainStop why
-plain_step sense good replicas one stop.DiskFault journals = tt
-plain_step sense good replicas one stop.SealFault journals = tt
-plain_step sense good replicas one (stop.Journal name cause) journals = (journals name cause refl).1
-plain_step sense good replicas one stop.NoMemory journals = tt
+pub plain_step : {D : Type 0} (view : DiskView D) (good : List ℕ → List ℕ → List ℕ → Bool) (replicas : List (Named D)) (one : Line) (why : RunStop)
+    → ((name : List ℕ) (cause : OpenFault) → why ≡ stop.Journal name cause → RefusesJournal view good replicas one name cause) → IsPlainStop why
+plain_step view good replicas one stop.DiskFault journals = tt
+plain_step view good replicas one stop.SealFault journals = tt
+plain_step view good replicas one (stop.Journal name cause) journals = (journals name cause refl).1
+plain_step view good replicas one stop.NoMemory journals = tt

@@ -2,10 +2,10 @@
 use Rattle.std.specs.Prelude.{◌≡◌, ℕ, List, Option, Some, None, Result}
 use Rattle.outside.specs.Files.{Holding}
 use Rattle.policy_ast.specs.declared.policy.PlacedItem.{PlacedItem}
-use Rattle.replica.specs.Disks.{Sense}
+use Rattle.outside.specs.Disk.{DiskView}
 use Rattle.script_texts.specs.Modes.{lines_refused_text, too_large_text, usage_text}
 use Rattle.script_texts.specs.declared.words.Input.TheVariants as input
-use Rattle.world.specs.Lines.{Tags}
+use Rattle.outside.specs.Envelope.{EnvelopeView}
 use Rattle.aranyad.specs.Loading.{IsLoaded, IsScriptFile, limited, policy_limit, script_limit}
 use Rattle.aranyad.specs.Modes.{mode_of}
 use Rattle.aranyad.specs.Checking.{ChecksFile, ReadsOr}
@@ -23,12 +23,12 @@ use Rattle.aranyad.specs.declared.mode.Mode.{Mode}
 use Rattle.aranyad.specs.declared.mode.Mode.TheVariants.{Check, Run}
 use Rattle.aranyad.specs.declared.status.Status.{Status}
 
-module _ {D : Type 0} (sense : Sense D) (tags : Tags) (disks left : List D) where
+module _ {D : Type 0} (view : DiskView D) (tags : EnvelopeView) (disks left : List D) where
   -- Lines are run in the world of the replicas that they declare, each opened on the disk at its place. Before that no disk is used.
   abbrev pub RunsWorld : List ℕ → List PlacedItem → Script → Result Ending Halt → List (List ℕ) → Type 0
   RunsWorld digest policy script.TooLarge result texts = Says ending.TooLarge (too_large_text input.Script) result texts × (left ≡ disks)
   RunsWorld digest policy (script.Refused number) result texts = Says ending.ScriptRefused (lines_refused_text input.Script number) result texts × (left ≡ disks)
-  RunsWorld digest policy (script.Lines lines) result texts = RunsOpened sense tags policy digest disks lines.items result texts left
+  RunsWorld digest policy (script.Lines lines) result texts = RunsOpened view tags policy digest disks lines.items result texts left
 
   -- The script's file is read under a policy.
   abbrev pub RunsScriptFile : Option (Option (List ℕ)) → List ℕ → List PlacedItem → Result Ending Halt → List (List ℕ) → Type 0

@@ -4,14 +4,15 @@ use Rattle.std.specs.List.{flat_map}
 use Rattle.journal.specs.declared.fault.OpenFault.{OpenFault}
 use Rattle.journal.specs.declared.fault.OpenFault.TheVariants as fault
 use Rattle.policy_ast.specs.declared.policy.PlacedItem.{PlacedItem}
-use Rattle.replica.specs.Disks.{Sense}
+use Rattle.outside.specs.Disk.{DiskView}
 use Rattle.replica.specs.Fronts.{OpensAs, Opens, front_of}
 use Rattle.replica.specs.Kept.{Kept, criteria_of}
 use Rattle.script.specs.declared.line.Line.{Line}
 use Rattle.script.specs.declared.line.Line.TheVariants as line
 use Rattle.script_texts.specs.Modes.{damaged_text, journal_policy_text}
 use Rattle.world.specs.Crashes.{AreSafe, IsOpenedOn, OpenAtEachMoment, OpenWhole, RefusesFirst}
-use Rattle.world.specs.Lines.{Runs, Tags}
+use Rattle.world.specs.Lines.{Runs}
+use Rattle.outside.specs.Envelope.{EnvelopeView}
 use Rattle.world.specs.Stops.{Acts, IsFront, LeavesFront, changed_name}
 use Rattle.world.specs.Worlds.{AreUp, Named, Of, Site, disks_of, kept_of}
 use Rattle.aranyad.specs.declared.ending.Ending.{Ending}
@@ -29,7 +30,7 @@ name_of other = []
 abbrev pub names_of : List Line → List (List ℕ)
 names_of lines = flat_map name_of lines
 
-module _ {D : Type 0} (tags : Tags) (first : Site D) where
+module _ {D : Type 0} (tags : EnvelopeView) (first : Site D) where
   -- Lines ran one after another, each in the world that the line before left. These are their texts.
   pub data Ran : List Line → List (List ℕ) → Site D → Type 0 where
     none : Ran [] [] first
@@ -50,7 +51,7 @@ module _ {D : Type 0} (tags : Tags) (first : Site D) where
 abbrev pub IsDown : {D : Type 0} → Line → List (Named D) → Type 0
 IsDown one replicas = (a : List ℕ) × (changed_name one ≡ Some a) × Of replicas a (λ kept. IsSome kept.down)
 
-module _ {D : Type 0} (sense : Sense D) (tags : Tags) (first : Site D) where
+module _ {D : Type 0} (view : DiskView D) (tags : EnvelopeView) (first : Site D) where
   -- The run stopped in a line, whose text isn't printed: the replicas are as a front of the line's events left them, and a crash at any moment of the line leaves
   -- of each disk what opens to what its replica holds after such a front.
   pub record StopsIn (lines : List Line) (one : Line) (texts : List (List ℕ)) (new : Site D) : Type 0 where
@@ -58,7 +59,7 @@ module _ {D : Type 0} (sense : Sense D) (tags : Tags) (first : Site D) where
     pub mid : Site D
     pub up_to : RanUpTo tags first lines (one ∷ behind) texts mid
     pub front : LeavesFront tags mid one new
-    pub moments : OpenAtEachMoment sense tags.good (IsFront tags mid one) mid.replicas new.replicas
+    pub moments : OpenAtEachMoment view tags.good (IsFront tags mid one) mid.replicas new.replicas
 
   -- The lines of a script are run to the last one; or up to a text that isn't printed whole; or to a line whose disk or seal failed; or as far as there was
   -- memory. Where a disk failed, it is that of the replica which the line may change.
@@ -76,22 +77,22 @@ journal_text name (fault.Damaged offset) = damaged_text name offset
 journal_text name (fault.OtherPolicy digest) = journal_policy_text name digest
 journal_text name other = []
 
-module _ {D : Type 0} (sense : Sense D) (tags : Tags) where
+module _ {D : Type 0} (view : DiskView D) (tags : EnvelopeView) where
   -- What a run leaves of the disks: those of the replicas, as the lines that ran left them, and behind them the others, as they were. A crash leaves of each
   -- now what opens to what its replica holds, or to that with the commit in which the disk failed; and one at any moment of the lines what opens to what it
   -- held behind some front of the events. A disk that didn't fail reads what opens to what its replica holds.
   pub record LeavesDisks (first : Site D) (lines : List Line) (new : Site D) (left : List D) : Type 0 where
     pub same : left ≡ disks_of new
     pub spare : new.spare ≡ first.spare
-    pub safe : AreSafe sense tags.good new.replicas
-    pub moments : OpenAtEachMoment sense tags.good (IsReached tags first lines) first.replicas new.replicas
-    pub reads : (a : List ℕ) (kept : Kept D) → kept_of new.replicas a ≡ Some kept → kept.down ≡ None → OpensAs (criteria_of tags.good kept) (sense.content kept.disk).reads (Opens (front_of kept.held))
+    pub safe : AreSafe view tags.good new.replicas
+    pub moments : OpenAtEachMoment view tags.good (IsReached tags first lines) first.replicas new.replicas
+    pub reads : (a : List ℕ) (kept : Kept D) → kept_of new.replicas a ≡ Some kept → kept.down ≡ None → OpensAs (criteria_of tags.good kept) (view.content kept.disk).reads (Opens (front_of kept.held))
 
   module _ (policy : List PlacedItem) (digest : List ℕ) (disks : List D) where
     -- No line was run. What a crash at any moment of the opening leaves is what it might have left before, or opens alike; and the disks after those of the
     -- replicas that the lines declare are as they were.
     pub record LeavesUnopened (lines : List Line) (left : List D) : Type 0 where
-      pub whole : OpenWhole sense tags.good policy digest disks left
+      pub whole : OpenWhole view tags.good policy digest disks left
       pub spare : drop (length (names_of lines)) left ≡ drop (length (names_of lines)) disks
 
     -- A world isn't opened, for a failed disk or since memory ran out; or since a journal is refused, which is told; or it is opened on what the disks read, and
@@ -99,7 +100,7 @@ module _ {D : Type 0} (sense : Sense D) (tags : Tags) where
     abbrev pub RunsOpened : List Line → Result Ending Halt → List (List ℕ) → List D → Type 0
     RunsOpened lines result texts left =
         (HaltsAtOnce result texts × LeavesUnopened lines left)
-        ⊎ ((name : List ℕ) × (cause : OpenFault) × RefusesFirst sense tags.good policy digest (names_of lines) disks name cause × Says ending.JournalRefused (journal_text name cause) result texts
+        ⊎ ((name : List ℕ) × (cause : OpenFault) × RefusesFirst view tags.good policy digest (names_of lines) disks name cause × Says ending.JournalRefused (journal_text name cause) result texts
         × LeavesUnopened lines left)
-        ⊎ ((first : Site D) × (new : Site D) × IsOpenedOn sense tags.good policy digest (names_of lines) disks first × OpenWhole sense tags.good policy digest disks (disks_of first)
-        × AreSafe sense tags.good first.replicas × RunsLines sense tags first lines result texts new × LeavesDisks first lines new left)
+        ⊎ ((first : Site D) × (new : Site D) × IsOpenedOn view tags.good policy digest (names_of lines) disks first × OpenWhole view tags.good policy digest disks (disks_of first)
+        × AreSafe view tags.good first.replicas × RunsLines view tags first lines result texts new × LeavesDisks first lines new left)

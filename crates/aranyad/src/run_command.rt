@@ -31,10 +31,10 @@ fn run_mode<F: Files, D: Disk, E: Envelope, K: Sink>(
     out: &mut K,
 ) -> Result<Ending, Halt>
     requires enough { length disks.old.items ≡ 8 }
-    ensures goes { IsTrue D.tells → AllByRecursion (λ d. IsTrue (D.honest d)) disks.old.items
-        → IfSome (F.holds files.old) (λ at. Goes (RunsMode (record { tells = D.tells; content = D.content; honest = D.honest }) (record { good = E.good; told = E.tag_of }) disks.old.items disks.new.items at (Some mode)) result (K.written out.old) (K.written out.new)) }
+    ensures goes { IsTrue D.seen.tells → AllByRecursion (λ d. IsTrue (D.seen.honest d)) disks.old.items
+        → IfSome (F.holds files.old) (λ at. Goes (RunsMode D.seen E.seen disks.old.items disks.new.items at (Some mode)) result (K.written out.old) (K.written out.new)) }
     ensures disks { length disks.new.items ≡ 8 }
-    ensures later { AreLater D.faults D.honest disks.old.items disks.new.items }
+    ensures later { AreLater D.faults D.seen.honest disks.old.items disks.new.items }
     ensures unused { (RunsScripts (Some mode) → ⊥) → disks.new.items ≡ disks.old.items }
     ensures cause { HaltsWithCause (SomeRose D.faults disks.old.items disks.new.items) (counts (F.faults files.old) (E.faults env.old) (K.faults out.old)) (counts (F.faults files.new) (E.faults env.new) (K.faults out.new)) result }
     ensures given { result ≡ Err halt.Read → IsGiven (Some mode) (F.last files.new) }
@@ -60,10 +60,10 @@ fn run_words<F: Files, D: Disk, E: Envelope, K: Sink>(
     out: &mut K,
 ) -> Result<Ending, Halt>
     requires enough { length disks.old.items ≡ 8 }
-    ensures goes { IsTrue D.tells → AllByRecursion (λ d. IsTrue (D.honest d)) disks.old.items
-        → IfSome (F.holds files.old) (λ at. Goes (RunsMode (record { tells = D.tells; content = D.content; honest = D.honest }) (record { good = E.good; told = E.tag_of }) disks.old.items disks.new.items at (mode_of words.now)) result (K.written out.old) (K.written out.new)) }
+    ensures goes { IsTrue D.seen.tells → AllByRecursion (λ d. IsTrue (D.seen.honest d)) disks.old.items
+        → IfSome (F.holds files.old) (λ at. Goes (RunsMode D.seen E.seen disks.old.items disks.new.items at (mode_of words.now)) result (K.written out.old) (K.written out.new)) }
     ensures disks { length disks.new.items ≡ 8 }
-    ensures later { AreLater D.faults D.honest disks.old.items disks.new.items }
+    ensures later { AreLater D.faults D.seen.honest disks.old.items disks.new.items }
     ensures unused { (RunsScripts (mode_of words.now) → ⊥) → disks.new.items ≡ disks.old.items }
     ensures cause { HasCause (mode_of words.now) (counts (F.faults files.old) (E.faults env.old) (K.faults out.old)) (counts (F.faults files.new) (E.faults env.new) (K.faults out.new))
         (SomeRose D.faults disks.old.items disks.new.items) (F.last files.new) (status_of result) }
@@ -89,8 +89,8 @@ pub fn run_command<F: Files, D: Disk, E: Envelope, K: Sink>(
     requires enough { length disks.old.items ≡ 8 }
     // Over honest disks that tell what they hold, the status, all that is printed and what the disks are left as are the model's: to the end, or to where a
     // device failed or memory ran out.
-    ensures run { IsTrue D.tells → AllByRecursion (λ d. IsTrue (D.honest d)) disks.old.items → IfSome (F.holds files.old) (λ at.
-        IsRun (record { tells = D.tells; content = D.content; honest = D.honest }) (record { good = E.good; told = E.tag_of }) disks.old.items disks.new.items at words.now result (K.written out.old) (K.written out.new)) }
+    ensures run { IsTrue D.seen.tells → AllByRecursion (λ d. IsTrue (D.seen.honest d)) disks.old.items → IfSome (F.holds files.old) (λ at.
+        IsRun D.seen E.seen disks.old.items disks.new.items at words.now result (K.written out.old) (K.written out.new)) }
     // Each status has its cause, whatever the devices tell.
     ensures cause { HasCause (mode_of words.now) (counts (F.faults files.old) (E.faults env.old) (K.faults out.old)) (counts (F.faults files.new) (E.faults env.new) (K.faults out.new))
         (SomeRose D.faults disks.old.items disks.new.items) (F.last files.new) result }
@@ -98,7 +98,7 @@ pub fn run_command<F: Files, D: Disk, E: Envelope, K: Sink>(
     ensures usage { mode_of words.now ≡ None → SaysUsage result (K.written out.old) (K.written out.new) }
     ensures disks { length disks.new.items ≡ 8 }
     // No count of faults falls, and each disk is as honest as it was.
-    ensures later { AreLater D.faults D.honest disks.old.items disks.new.items }
+    ensures later { AreLater D.faults D.seen.honest disks.old.items disks.new.items }
     // Only a run of scripts uses disks.
     ensures unused { (RunsScripts (mode_of words.now) → ⊥) → disks.new.items ≡ disks.old.items }
 {

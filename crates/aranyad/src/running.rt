@@ -57,9 +57,9 @@ fn run_lines<R: Runner, G: Graph, F: FactBase, D: Disk, E: Envelope, K: Sink, L:
 ) -> Result<Ending, Halt>
     requires placed { FollowIn world.old lines.now }
     requires up { AreUp world.old.replicas }
-    ensures goes { AreSafe (record { tells = D.tells; content = D.content; honest = D.honest }) E.good world.old.replicas
-        → Goes (RunsIn (record { tells = D.tells; content = D.content; honest = D.honest }) (record { good = E.good; told = E.tag_of }) world.old lines.now world.new) result (K.written out.old) (K.written out.new) }
-    ensures disks { AreLater D.faults D.honest (disks_of world.old) (disks_of world.new) }
+    ensures goes { AreSafe D.seen E.seen.good world.old.replicas
+        → Goes (RunsIn D.seen E.seen world.old lines.now world.new) result (K.written out.old) (K.written out.new) }
+    ensures disks { AreLater D.faults D.seen.honest (disks_of world.old) (disks_of world.new) }
     ensures cause { LinesHalt (SomeRose D.faults (disks_of world.old) (disks_of world.new)) (E.faults env.old) (E.faults env.new) (K.faults out.old) (K.faults out.new) result }
 {
     for line in lines {
@@ -96,9 +96,9 @@ fn run_opened<R: Runner, G: Graph, F: FactBase, D: Disk, E: Envelope, K: Sink, L
     requires names { names.now ≡ names_of lines.now }
     requires enough { length disks.items ≡ 8 }
     requires script { (bytes : List ℕ) × IsScript bytes lines.now }
-    ensures goes { (policy : List PlacedItem) → All (λ r. R.rules r ≡ policy) runners.items → IsTrue D.tells → AllByRecursion (λ d. IsTrue (D.honest d)) disks.items
-        → Goes (λ r ts. RunsOpened (record { tells = D.tells; content = D.content; honest = D.honest }) (record { good = E.good; told = E.tag_of }) policy digest.now disks.items lines.now r ts result.1.items) result.0 (K.written out.old) (K.written out.new) }
-    ensures disks { AreLater D.faults D.honest disks.items result.1.items }
+    ensures goes { (policy : List PlacedItem) → All (λ r. R.rules r ≡ policy) runners.items → IsTrue D.seen.tells → AllByRecursion (λ d. IsTrue (D.seen.honest d)) disks.items
+        → Goes (λ r ts. RunsOpened D.seen E.seen policy digest.now disks.items lines.now r ts result.1.items) result.0 (K.written out.old) (K.written out.new) }
+    ensures disks { AreLater D.faults D.seen.honest disks.items result.1.items }
     ensures cause { LinesHalt (SomeRose D.faults disks.items result.1.items) (E.faults env.old) (E.faults env.new) (K.faults out.old) (K.faults out.new) result.0 }
 {
     let mut world = match World::<R, G, F, D>::open_world(
@@ -128,10 +128,10 @@ pub fn run_world<D: Disk, E: Envelope, K: Sink, L: Ledger>(
     requires some { 0 < L.parts }
     requires enough { length disks.old.items ≡ 8 }
     requires script { (bytes : List ℕ) × IsScript bytes lines.now }
-    ensures goes { IsTrue D.tells → AllByRecursion (λ d. IsTrue (D.honest d)) disks.old.items
-        → Goes (λ r ts. RunsOpened (record { tells = D.tells; content = D.content; honest = D.honest }) (record { good = E.good; told = E.tag_of }) policy digest.now disks.old.items lines.now r ts disks.new.items) result (K.written out.old) (K.written out.new) }
+    ensures goes { IsTrue D.seen.tells → AllByRecursion (λ d. IsTrue (D.seen.honest d)) disks.old.items
+        → Goes (λ r ts. RunsOpened D.seen E.seen policy digest.now disks.old.items lines.now r ts disks.new.items) result (K.written out.old) (K.written out.new) }
     ensures disks { length disks.new.items ≡ 8 }
-    ensures later { AreLater D.faults D.honest disks.old.items disks.new.items }
+    ensures later { AreLater D.faults D.seen.honest disks.old.items disks.new.items }
     ensures cause { LinesHalt (SomeRose D.faults disks.old.items disks.new.items) (E.faults env.old) (E.faults env.new) (K.faults out.old) (K.faults out.new) result }
 {
     let names = match names_of(alloc, lines) {

@@ -34,10 +34,10 @@ fn run_script<D: Disk, E: Envelope, K: Sink>(
 ) -> Result<Ending, Halt>
     requires enough { length disks.old.items ≡ 8 }
     requires placed { ArePlaced script.now }
-    ensures goes { IsTrue D.tells → AllByRecursion (λ d. IsTrue (D.honest d)) disks.old.items
-        → Goes (RunsWorld (record { tells = D.tells; content = D.content; honest = D.honest }) (record { good = E.good; told = E.tag_of }) disks.old.items disks.new.items digest.now policy script.now) result (K.written out.old) (K.written out.new) }
+    ensures goes { IsTrue D.seen.tells → AllByRecursion (λ d. IsTrue (D.seen.honest d)) disks.old.items
+        → Goes (RunsWorld D.seen E.seen disks.old.items disks.new.items digest.now policy script.now) result (K.written out.old) (K.written out.new) }
     ensures disks { length disks.new.items ≡ 8 }
-    ensures later { AreLater D.faults D.honest disks.old.items disks.new.items }
+    ensures later { AreLater D.faults D.seen.honest disks.old.items disks.new.items }
     ensures cause { LinesHalt (SomeRose D.faults disks.old.items disks.new.items) (E.faults env.old) (E.faults env.new) (K.faults out.old) (K.faults out.new) result }
 {
     match script {
@@ -68,11 +68,11 @@ fn run_whole<F: Files, D: Disk, E: Envelope, K: Sink>(
     out: &mut K,
 ) -> Result<Ending, Halt>
     requires enough { length disks.old.items ≡ 8 }
-    ensures goes { IsTrue D.tells → AllByRecursion (λ d. IsTrue (D.honest d)) disks.old.items
-        → IfSome (F.holds files.old) (λ at. Goes (RunsScriptFile (record { tells = D.tells; content = D.content; honest = D.honest }) (record { good = E.good; told = E.tag_of }) disks.old.items disks.new.items (limited script_limit (at script)) digest.now policy)
+    ensures goes { IsTrue D.seen.tells → AllByRecursion (λ d. IsTrue (D.seen.honest d)) disks.old.items
+        → IfSome (F.holds files.old) (λ at. Goes (RunsScriptFile D.seen E.seen disks.old.items disks.new.items (limited script_limit (at script)) digest.now policy)
         result (K.written out.old) (K.written out.new)) }
     ensures disks { length disks.new.items ≡ 8 }
-    ensures later { AreLater D.faults D.honest disks.old.items disks.new.items }
+    ensures later { AreLater D.faults D.seen.honest disks.old.items disks.new.items }
     ensures cause { HaltsWithCause (SomeRose D.faults disks.old.items disks.new.items) (counts (F.faults files.old) (E.faults env.old) (K.faults out.old)) (counts (F.faults files.new) (E.faults env.new) (K.faults out.new)) result }
     ensures last { result ≡ Err halt.Read → F.last files.new ≡ Some script }
 {
@@ -93,11 +93,11 @@ fn run_loaded<F: Files, D: Disk, E: Envelope, K: Sink>(
     out: &mut K,
 ) -> Result<Ending, Halt>
     requires enough { length disks.old.items ≡ 8 }
-    ensures goes { IsTrue D.tells → AllByRecursion (λ d. IsTrue (D.honest d)) disks.old.items
-        → IfSome (F.holds files.old) (λ at. Goes (RunsPolicy (record { tells = D.tells; content = D.content; honest = D.honest }) (record { good = E.good; told = E.tag_of }) disks.old.items disks.new.items (limited script_limit (at script)) policy)
+    ensures goes { IsTrue D.seen.tells → AllByRecursion (λ d. IsTrue (D.seen.honest d)) disks.old.items
+        → IfSome (F.holds files.old) (λ at. Goes (RunsPolicy D.seen E.seen disks.old.items disks.new.items (limited script_limit (at script)) policy)
         result (K.written out.old) (K.written out.new)) }
     ensures disks { length disks.new.items ≡ 8 }
-    ensures later { AreLater D.faults D.honest disks.old.items disks.new.items }
+    ensures later { AreLater D.faults D.seen.honest disks.old.items disks.new.items }
     ensures cause { HaltsWithCause (SomeRose D.faults disks.old.items disks.new.items) (counts (F.faults files.old) (E.faults env.old) (K.faults out.old)) (counts (F.faults files.new) (E.faults env.new) (K.faults out.new)) result }
     ensures last { result ≡ Err halt.Read → F.last files.new ≡ Some script }
 {
@@ -121,11 +121,11 @@ pub fn run_files<F: Files, D: Disk, E: Envelope, K: Sink>(
     out: &mut K,
 ) -> Result<Ending, Halt>
     requires enough { length disks.old.items ≡ 8 }
-    ensures goes { IsTrue D.tells → AllByRecursion (λ d. IsTrue (D.honest d)) disks.old.items
-        → IfSome (F.holds files.old) (λ at. Goes (RunsFiles (record { tells = D.tells; content = D.content; honest = D.honest }) (record { good = E.good; told = E.tag_of }) disks.old.items disks.new.items (limited policy_limit (at policy)) (limited script_limit (at script)))
+    ensures goes { IsTrue D.seen.tells → AllByRecursion (λ d. IsTrue (D.seen.honest d)) disks.old.items
+        → IfSome (F.holds files.old) (λ at. Goes (RunsFiles D.seen E.seen disks.old.items disks.new.items (limited policy_limit (at policy)) (limited script_limit (at script)))
         result (K.written out.old) (K.written out.new)) }
     ensures disks { length disks.new.items ≡ 8 }
-    ensures later { AreLater D.faults D.honest disks.old.items disks.new.items }
+    ensures later { AreLater D.faults D.seen.honest disks.old.items disks.new.items }
     ensures cause { HaltsWithCause (SomeRose D.faults disks.old.items disks.new.items) (counts (F.faults files.old) (E.faults env.old) (K.faults out.old)) (counts (F.faults files.new) (E.faults env.new) (K.faults out.new)) result }
     ensures last { result ≡ Err halt.Read → (F.last files.new ≡ Some policy) ⊎ (F.last files.new ≡ Some script) }
 {

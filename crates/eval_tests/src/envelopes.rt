@@ -20,9 +20,7 @@ impl Envelope for SilentEnvelope {
     ghost use Rattle.std.specs.Prelude.{None, true};
     ghost use Rattle.std.proofs.Common.{lit<};
 
-    ghost good = { λ author body tag. true };
-
-    ghost tag_of = { None };
+    ghost seen = { record { good = λ author body tag. true; told = None } };
 
     ghost faults = { λ envelope. 0 };
 

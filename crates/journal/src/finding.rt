@@ -29,12 +29,12 @@ fn first_fault(stop: Stop) -> OpenFault
 
 // Whether the first gate is open.
 fn read_first_gate<D: Disk>(disk: &mut D, span: &mut Span) -> Result<bool, OpenFault>
-    requires within { IsTrue D.tells → span.old.end ≤ length (D.content disk.old).reads }
+    requires within { IsTrue D.seen.tells → span.old.end ≤ length (D.seen.content disk.old).reads }
     requires more { span.old.place < span.old.end }
-    ensures gate { IsTrue D.tells → ReadsFirstGate result (left (D.content disk.new).reads span.new) (left (D.content disk.old).reads span.old) }
+    ensures gate { IsTrue D.seen.tells → ReadsFirstGate result (left (D.seen.content disk.new).reads span.new) (left (D.seen.content disk.old).reads span.old) }
     ensures end { span.new.end ≡ span.old.end }
     ensures place { OnOk result (span.new.place ≡ span.old.place + 1) }
-    ensures disk { OpenLooks D.tells D.content D.honest D.faults D.last_step disk.old disk.new result }
+    ensures disk { OpenLooks D.seen.tells D.seen.content D.seen.honest D.faults D.last_step disk.old disk.new result }
 {
     match read_u8(disk, span) {
         Ok(gate) => Ok(gate == OPEN),
@@ -44,12 +44,12 @@ fn read_first_gate<D: Disk>(disk: &mut D, span: &mut Span) -> Result<bool, OpenF
 
 // The digest in the first record.
 fn read_digest<D: Disk>(disk: &mut D, span: &mut Span) -> Result<Id, OpenFault>
-    requires within { IsTrue D.tells → span.old.end ≤ length (D.content disk.old).reads }
-    ensures digest { IsTrue D.tells → ReadsFirst result (left (D.content disk.new).reads span.new) (left (D.content disk.old).reads span.old) }
+    requires within { IsTrue D.seen.tells → span.old.end ≤ length (D.seen.content disk.old).reads }
+    ensures digest { IsTrue D.seen.tells → ReadsFirst result (left (D.seen.content disk.new).reads span.new) (left (D.seen.content disk.old).reads span.old) }
     ensures end { span.new.end ≡ span.old.end }
     ensures place { OnOk result (span.new.place ≡ span.old.place + 37) }
     ensures more { OnOk result (span.new.place < span.new.end) }
-    ensures disk { OpenLooks D.tells D.content D.honest D.faults D.last_step disk.old disk.new result }
+    ensures disk { OpenLooks D.seen.tells D.seen.content D.seen.honest D.faults D.last_step disk.old disk.new result }
 {
     match read_first(disk, span) {
         Ok(digest) => Ok(digest),
@@ -64,12 +64,12 @@ fn find_records<D: Disk>(
     span: &mut Span,
     digest: &Id,
 ) -> Result<Found, OpenFault>
-    requires within { IsTrue D.tells → span.old.end ≤ length (D.content disk.old).reads }
+    requires within { IsTrue D.seen.tells → span.old.end ≤ length (D.seen.content disk.old).reads }
     requires place { span.old.place ≡ 1 }
     requires more { span.old.place < span.old.end }
     ensures listed { IfOk result IsListed }
-    ensures found { IsTrue D.tells → Finds digest.now (1 ∷ left (D.content disk.old).reads span.old) result }
-    ensures disk { OpenLooks D.tells D.content D.honest D.faults D.last_step disk.old disk.new result }
+    ensures found { IsTrue D.seen.tells → Finds digest.now (1 ∷ left (D.seen.content disk.old).reads span.old) result }
+    ensures disk { OpenLooks D.seen.tells D.seen.content D.seen.honest D.faults D.last_step disk.old disk.new result }
 {
     let first = read_digest(disk, span)?;
     if first != *digest {
@@ -82,8 +82,8 @@ fn find_records<D: Disk>(
 /// What the disk holds, for the policy with this digest.
 pub fn find<D: Disk>(alloc: Global, disk: &mut D, digest: &Id) -> Result<Found, OpenFault>
     ensures listed { IfOk result IsListed }
-    ensures found { IsTrue D.tells → Finds digest.now (D.content disk.old).reads result }
-    ensures disk { OpenLooks D.tells D.content D.honest D.faults D.last_step disk.old disk.new result }
+    ensures found { IsTrue D.seen.tells → Finds digest.now (D.seen.content disk.old).reads result }
+    ensures disk { OpenLooks D.seen.tells D.seen.content D.seen.honest D.faults D.last_step disk.old disk.new result }
 {
     let len = match disk.len() {
         Ok(len) => len,

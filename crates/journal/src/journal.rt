@@ -34,16 +34,16 @@ pub fn open_journal<D: Disk>(
     disk: D,
     digest: &Id,
 ) -> Result<(Journal<D>, Vec<(u64, Commit)>), (OpenFault, D)>
-    ensures opens { IsTrue D.tells → Opens digest.now (D.content disk).reads (without_disk result) }
-    ensures settled { IsTrue D.tells → IsTrue (D.honest disk) → IfOk result (λ found. (commits : List ACommit) ×
-        IsSettled (D.content (journal_disk found.0)) (journal_outline found.0) digest.now commits × (found.1.items ≡ gated commits)) }
-    ensures any_moment { IsTrue D.tells → IsTrue (D.honest disk) →
-        LeavesOnly (D.content disk) (D.content (disk_after result)) (WasOrReadsAlike digest.now (D.content disk)) }
-    ensures begun { IsTrue D.tells → IsBegun (D.content disk).reads → (D.content (disk_after result)).reads ≡ (D.content disk).reads }
-    ensures stays { IsTrue D.tells → IsTrue (D.honest disk) → StaysSettled (D.content disk) (D.content (disk_after result)) }
+    ensures opens { IsTrue D.seen.tells → Opens digest.now (D.seen.content disk).reads (without_disk result) }
+    ensures settled { IsTrue D.seen.tells → IsTrue (D.seen.honest disk) → IfOk result (λ found. (commits : List ACommit) ×
+        IsSettled (D.seen.content (journal_disk found.0)) (journal_outline found.0) digest.now commits × (found.1.items ≡ gated commits)) }
+    ensures any_moment { IsTrue D.seen.tells → IsTrue (D.seen.honest disk) →
+        LeavesOnly (D.seen.content disk) (D.seen.content (disk_after result)) (WasOrReadsAlike digest.now (D.seen.content disk)) }
+    ensures begun { IsTrue D.seen.tells → IsBegun (D.seen.content disk).reads → (D.seen.content (disk_after result)).reads ≡ (D.seen.content disk).reads }
+    ensures stays { IsTrue D.seen.tells → IsTrue (D.seen.honest disk) → StaysSettled (D.seen.content disk) (D.seen.content (disk_after result)) }
     ensures works { IfOk result (λ found. journal_failed found.0 ≡ false) }
     ensures listed { IfOk result (λ found. AreOf (journal_outline found.0) found.1.items) }
-    ensures cause { OpenWrites D.honest D.faults D.last_step disk (disk_after result) (without_disk result) }
+    ensures cause { OpenWrites D.seen.honest D.faults D.last_step disk (disk_after result) (without_disk result) }
 {
     let mut disk = disk;
     match recover(alloc, &mut disk, digest) {
@@ -74,18 +74,18 @@ impl<D: Disk> Journal<D> {
     pub fn commit(&mut self, ready: Ready) -> Result<(), DiskStep>
         requires works { journal_failed self.old ≡ false }
         requires made { ready_from ready ≡ journal_outline self.old }
-        requires settled { IsTrue D.tells → IsTrue (D.honest (journal_disk self.old)) → (digest : List ℕ) × (commits : List ACommit) ×
-            IsSettled (D.content (journal_disk self.old)) (journal_outline self.old) digest commits }
-        ensures acknowledged { IsTrue D.tells → IsTrue (D.honest (journal_disk self.old)) → (digest : List ℕ) (commits : List ACommit) (commit : ACommit) →
-            IsSettled (D.content (journal_disk self.old)) (journal_outline self.old) digest commits → IsReadyFor ready (journal_outline self.old) commit →
-            OnOk result (IsSettled (D.content (journal_disk self.new)) (journal_outline self.new) digest (commits ++ commit ∷ [])) }
-        ensures any_moment { IsTrue D.tells → IsTrue (D.honest (journal_disk self.old)) → (digest : List ℕ) (commits : List ACommit) (commit : ACommit) →
-            IsSettled (D.content (journal_disk self.old)) (journal_outline self.old) digest commits → IsReadyFor ready (journal_outline self.old) commit →
-            LeavesOnly (D.content (journal_disk self.old)) (D.content (journal_disk self.new)) (IsBeforeOrAfter digest commits commit) }
+        requires settled { IsTrue D.seen.tells → IsTrue (D.seen.honest (journal_disk self.old)) → (digest : List ℕ) × (commits : List ACommit) ×
+            IsSettled (D.seen.content (journal_disk self.old)) (journal_outline self.old) digest commits }
+        ensures acknowledged { IsTrue D.seen.tells → IsTrue (D.seen.honest (journal_disk self.old)) → (digest : List ℕ) (commits : List ACommit) (commit : ACommit) →
+            IsSettled (D.seen.content (journal_disk self.old)) (journal_outline self.old) digest commits → IsReadyFor ready (journal_outline self.old) commit →
+            OnOk result (IsSettled (D.seen.content (journal_disk self.new)) (journal_outline self.new) digest (commits ++ commit ∷ [])) }
+        ensures any_moment { IsTrue D.seen.tells → IsTrue (D.seen.honest (journal_disk self.old)) → (digest : List ℕ) (commits : List ACommit) (commit : ACommit) →
+            IsSettled (D.seen.content (journal_disk self.old)) (journal_outline self.old) digest commits → IsReadyFor ready (journal_outline self.old) commit →
+            LeavesOnly (D.seen.content (journal_disk self.old)) (D.seen.content (journal_disk self.new)) (IsBeforeOrAfter digest commits commit) }
         ensures failed { journal_failed self.new ≡ is_err result }
         ensures outline { OnOk result (journal_outline self.new ≡ ready_to ready) }
         ensures same { OnErr result (journal_outline self.new ≡ journal_outline self.old) }
-        ensures honest { D.honest (journal_disk self.new) ≡ D.honest (journal_disk self.old) }
+        ensures honest { D.seen.honest (journal_disk self.new) ≡ D.seen.honest (journal_disk self.old) }
         ensures later { D.faults (journal_disk self.old) ≤ D.faults (journal_disk self.new) }
         ensures cause { IfErr result (λ step. Rose (D.faults (journal_disk self.old)) (D.faults (journal_disk self.new)) × (D.last_step (journal_disk self.new) ≡ Some step)) }
     {
@@ -108,17 +108,17 @@ impl<D: Disk> Journal<D> {
         alloc: Global,
         digest: &Id,
     ) -> Result<(Reopened, Vec<(u64, Commit)>), OpenFault>
-        ensures opens { IsTrue D.tells → Opens digest.now (D.content (journal_disk self.old)).reads result }
-        ensures settled { IsTrue D.tells → IsTrue (D.honest (journal_disk self.old)) → IfOk result (λ found. (commits : List ACommit) ×
-            IsSettled (D.content (journal_disk self.new)) (reopened_outline found.0) digest.now commits × (found.1.items ≡ gated commits)) }
-        ensures any_moment { IsTrue D.tells → IsTrue (D.honest (journal_disk self.old)) →
-            LeavesOnly (D.content (journal_disk self.old)) (D.content (journal_disk self.new)) (WasOrReadsAlike digest.now (D.content (journal_disk self.old))) }
-        ensures begun { IsTrue D.tells → IsBegun (D.content (journal_disk self.old)).reads → (D.content (journal_disk self.new)).reads ≡ (D.content (journal_disk self.old)).reads }
-        ensures stays { IsTrue D.tells → IsTrue (D.honest (journal_disk self.old)) → StaysSettled (D.content (journal_disk self.old)) (D.content (journal_disk self.new)) }
+        ensures opens { IsTrue D.seen.tells → Opens digest.now (D.seen.content (journal_disk self.old)).reads result }
+        ensures settled { IsTrue D.seen.tells → IsTrue (D.seen.honest (journal_disk self.old)) → IfOk result (λ found. (commits : List ACommit) ×
+            IsSettled (D.seen.content (journal_disk self.new)) (reopened_outline found.0) digest.now commits × (found.1.items ≡ gated commits)) }
+        ensures any_moment { IsTrue D.seen.tells → IsTrue (D.seen.honest (journal_disk self.old)) →
+            LeavesOnly (D.seen.content (journal_disk self.old)) (D.seen.content (journal_disk self.new)) (WasOrReadsAlike digest.now (D.seen.content (journal_disk self.old))) }
+        ensures begun { IsTrue D.seen.tells → IsBegun (D.seen.content (journal_disk self.old)).reads → (D.seen.content (journal_disk self.new)).reads ≡ (D.seen.content (journal_disk self.old)).reads }
+        ensures stays { IsTrue D.seen.tells → IsTrue (D.seen.honest (journal_disk self.old)) → StaysSettled (D.seen.content (journal_disk self.old)) (D.seen.content (journal_disk self.new)) }
         ensures same { journal_outline self.new ≡ journal_outline self.old }
         ensures listed { IfOk result (λ found. AreOf (reopened_outline found.0) found.1.items) }
         ensures failed { journal_failed self.new ≡ failed_after result (journal_failed self.old) }
-        ensures cause { OpenWrites D.honest D.faults D.last_step (journal_disk self.old) (journal_disk self.new) result }
+        ensures cause { OpenWrites D.seen.honest D.faults D.last_step (journal_disk self.old) (journal_disk self.new) result }
     {
         match recover(alloc, &mut self.disk, digest) {
             Ok((end, commits)) => Ok((Reopened { end }, commits)),

@@ -25,15 +25,15 @@ fn read_gate<D: Disk>(
     span: &mut Span,
     end: &End,
 ) -> Result<Option<Commit>, OpenFault>
-    requires within { IsTrue D.tells → span.old.end ≤ length (D.content disk.old).reads }
+    requires within { IsTrue D.seen.tells → span.old.end ≤ length (D.seen.content disk.old).reads }
     requires more { span.old.place < span.old.end }
-    ensures next { IsTrue D.tells → ReadsGate end.now.is_fresh end.now.gate result (left (D.content disk.new).reads span.new) (left (D.content disk.old).reads span.old) }
+    ensures next { IsTrue D.seen.tells → ReadsGate end.now.is_fresh end.now.gate result (left (D.seen.content disk.new).reads span.new) (left (D.seen.content disk.old).reads span.old) }
     ensures end { span.new.end ≡ span.old.end }
     ensures form { IfOk result (λ found. IfSome found (λ commit. IsCommitForm commit)) }
     ensures size { IfOk result (λ found. IfSome found (λ commit. Takes commit (span.old.place + 5) span.new.place)) }
     ensures place { IfOk result (λ found. IfSome found (λ commit. MayStand end.now.is_fresh commit)) }
     ensures more { IfOk result (λ found. IfSome found (λ commit. span.new.place < span.new.end)) }
-    ensures disk { OpenLooks D.tells D.content D.honest D.faults D.last_step disk.old disk.new result }
+    ensures disk { OpenLooks D.seen.tells D.seen.content D.seen.honest D.faults D.last_step disk.old disk.new result }
 {
     match read_next(alloc, disk, span, end.is_fresh) {
         Ok(found) => Ok(found),
@@ -58,12 +58,12 @@ pub fn read_list<D: Disk>(
     disk: &mut D,
     span: &mut Span,
 ) -> Result<(End, Vec<(u64, Commit)>), OpenFault>
-    requires within { IsTrue D.tells → span.old.end ≤ length (D.content disk.old).reads }
+    requires within { IsTrue D.seen.tells → span.old.end ≤ length (D.seen.content disk.old).reads }
     requires place { span.old.place ≡ 38 }
     requires more { span.old.place < span.old.end }
-    ensures commits { IsTrue D.tells → ReadsCommits result (left (D.content disk.old).reads span.old) }
+    ensures commits { IsTrue D.seen.tells → ReadsCommits result (left (D.seen.content disk.old).reads span.old) }
     ensures listed { IfOk result (λ found. AreOf (outline_at found.0) found.1.items) }
-    ensures disk { OpenLooks D.tells D.content D.honest D.faults D.last_step disk.old disk.new result }
+    ensures disk { OpenLooks D.seen.tells D.seen.content D.seen.honest D.faults D.last_step disk.old disk.new result }
 {
     let mut end = first_end();
     let mut commits = Vec::new(alloc);

@@ -24,15 +24,15 @@ pub fn read_next<D: Disk>(
     span: &mut Span,
     is_fresh: bool,
 ) -> Result<Option<Commit>, Stop>
-    requires within { IsTrue D.tells → span.old.end ≤ length (D.content disk.old).reads }
+    requires within { IsTrue D.seen.tells → span.old.end ≤ length (D.seen.content disk.old).reads }
     requires more { span.old.place < span.old.end }
-    ensures next { IsTrue D.tells → ReadsNext is_fresh result (left (D.content disk.new).reads span.new) (left (D.content disk.old).reads span.old) }
+    ensures next { IsTrue D.seen.tells → ReadsNext is_fresh result (left (D.seen.content disk.new).reads span.new) (left (D.seen.content disk.old).reads span.old) }
     ensures end { span.new.end ≡ span.old.end }
     ensures form { IfOk result (λ found. IfSome found (λ commit. IsCommitForm commit)) }
     ensures size { IfOk result (λ found. IfSome found (λ commit. Takes commit (span.old.place + 5) span.new.place)) }
     ensures place { IfOk result (λ found. IfSome found (λ commit. MayStand is_fresh commit)) }
     ensures more { IfOk result (λ found. IfSome found (λ commit. span.new.place < span.new.end)) }
-    ensures disk { Looks D.tells D.content D.honest D.faults D.last_step disk.old disk.new result }
+    ensures disk { Looks D.seen.tells D.seen.content D.seen.honest D.faults D.last_step disk.old disk.new result }
 {
     if read_u8(disk, span)? != OPEN {
         return Ok(None);

@@ -41,14 +41,14 @@ pub fn recover<D: Disk>(
     digest: &Id,
 ) -> Result<(End, Vec<(u64, Commit)>), OpenFault>
     ensures listed { IfOk result (λ found. AreOf (outline_at found.0) found.1.items) }
-    ensures opens { IsTrue D.tells → Opens digest.now (D.content disk.old).reads result }
-    ensures settled { IsTrue D.tells → IsTrue (D.honest disk.old) → IfOk result (λ found. (commits : List Commit) ×
-        IsSettled (D.content disk.new) (outline_at found.0) digest.now commits × (found.1.items ≡ gated commits)) }
-    ensures any_moment { IsTrue D.tells → IsTrue (D.honest disk.old) →
-        LeavesOnly (D.content disk.old) (D.content disk.new) (WasOrReadsAlike digest.now (D.content disk.old)) }
-    ensures begun { IsTrue D.tells → IsBegun (D.content disk.old).reads → (D.content disk.new).reads ≡ (D.content disk.old).reads }
-    ensures stays { IsTrue D.tells → IsTrue (D.honest disk.old) → StaysSettled (D.content disk.old) (D.content disk.new) }
-    ensures disk { OpenWrites D.honest D.faults D.last_step disk.old disk.new result }
+    ensures opens { IsTrue D.seen.tells → Opens digest.now (D.seen.content disk.old).reads result }
+    ensures settled { IsTrue D.seen.tells → IsTrue (D.seen.honest disk.old) → IfOk result (λ found. (commits : List Commit) ×
+        IsSettled (D.seen.content disk.new) (outline_at found.0) digest.now commits × (found.1.items ≡ gated commits)) }
+    ensures any_moment { IsTrue D.seen.tells → IsTrue (D.seen.honest disk.old) →
+        LeavesOnly (D.seen.content disk.old) (D.seen.content disk.new) (WasOrReadsAlike digest.now (D.seen.content disk.old)) }
+    ensures begun { IsTrue D.seen.tells → IsBegun (D.seen.content disk.old).reads → (D.seen.content disk.new).reads ≡ (D.seen.content disk.old).reads }
+    ensures stays { IsTrue D.seen.tells → IsTrue (D.seen.honest disk.old) → StaysSettled (D.seen.content disk.old) (D.seen.content disk.new) }
+    ensures disk { OpenWrites D.seen.honest D.faults D.last_step disk.old disk.new result }
 {
     if disk.sync().is_err() {
         return Err(OpenFault::DiskFault(DiskStep::Sync));

@@ -11,12 +11,12 @@ use outside::{Disk, DiskStep};
 
 /// Fills the slice with the bytes that come next, and stops behind them.
 pub fn read_piece<D: Disk>(disk: &mut D, span: &mut Span, into: &mut [u8]) -> Result<(), Stop>
-    requires within { IsTrue D.tells → span.old.end ≤ length (D.content disk.old).reads }
-    ensures read { IsTrue D.tells → Reads (λ _. into.new) result (left (D.content disk.new).reads span.new)
-        (bytes_at (length into.old) (left (D.content disk.old).reads span.old)) }
+    requires within { IsTrue D.seen.tells → span.old.end ≤ length (D.seen.content disk.old).reads }
+    ensures read { IsTrue D.seen.tells → Reads (λ _. into.new) result (left (D.seen.content disk.new).reads span.new)
+        (bytes_at (length into.old) (left (D.seen.content disk.old).reads span.old)) }
     ensures end { span.new.end ≡ span.old.end }
     ensures place { OnOk result (span.new.place ≡ span.old.place + length into.old) }
-    ensures disk { Looks D.tells D.content D.honest D.faults D.last_step disk.old disk.new result }
+    ensures disk { Looks D.seen.tells D.seen.content D.seen.honest D.faults D.last_step disk.old disk.new result }
 {
     let count = into.len() as u64;
     if span.end - span.place < count {
@@ -33,12 +33,12 @@ pub fn read_piece<D: Disk>(disk: &mut D, span: &mut Span, into: &mut [u8]) -> Re
 }
 
 pub fn read_u8<D: Disk>(disk: &mut D, span: &mut Span) -> Result<u8, Stop>
-    requires within { IsTrue D.tells → span.old.end ≤ length (D.content disk.old).reads }
-    ensures read { IsTrue D.tells → Reads (λ number. number) result (left (D.content disk.new).reads span.new)
-        (number_at w8 (left (D.content disk.old).reads span.old)) }
+    requires within { IsTrue D.seen.tells → span.old.end ≤ length (D.seen.content disk.old).reads }
+    ensures read { IsTrue D.seen.tells → Reads (λ number. number) result (left (D.seen.content disk.new).reads span.new)
+        (number_at w8 (left (D.seen.content disk.old).reads span.old)) }
     ensures end { span.new.end ≡ span.old.end }
     ensures place { OnOk result (span.new.place ≡ span.old.place + 1) }
-    ensures disk { Looks D.tells D.content D.honest D.faults D.last_step disk.old disk.new result }
+    ensures disk { Looks D.seen.tells D.seen.content D.seen.honest D.faults D.last_step disk.old disk.new result }
 {
     let mut bytes = [0; 1];
     read_piece(disk, span, &mut bytes)?;
@@ -46,12 +46,12 @@ pub fn read_u8<D: Disk>(disk: &mut D, span: &mut Span) -> Result<u8, Stop>
 }
 
 pub fn read_u32<D: Disk>(disk: &mut D, span: &mut Span) -> Result<u32, Stop>
-    requires within { IsTrue D.tells → span.old.end ≤ length (D.content disk.old).reads }
-    ensures read { IsTrue D.tells → Reads (λ number. number) result (left (D.content disk.new).reads span.new)
-        (number_at w32 (left (D.content disk.old).reads span.old)) }
+    requires within { IsTrue D.seen.tells → span.old.end ≤ length (D.seen.content disk.old).reads }
+    ensures read { IsTrue D.seen.tells → Reads (λ number. number) result (left (D.seen.content disk.new).reads span.new)
+        (number_at w32 (left (D.seen.content disk.old).reads span.old)) }
     ensures end { span.new.end ≡ span.old.end }
     ensures place { OnOk result (span.new.place ≡ span.old.place + 4) }
-    ensures disk { Looks D.tells D.content D.honest D.faults D.last_step disk.old disk.new result }
+    ensures disk { Looks D.seen.tells D.seen.content D.seen.honest D.faults D.last_step disk.old disk.new result }
 {
     let mut bytes = [0; 4];
     read_piece(disk, span, &mut bytes)?;
@@ -59,13 +59,13 @@ pub fn read_u32<D: Disk>(disk: &mut D, span: &mut Span) -> Result<u32, Stop>
 }
 
 pub fn read_id<D: Disk>(disk: &mut D, span: &mut Span) -> Result<Id, Stop>
-    requires within { IsTrue D.tells → span.old.end ≤ length (D.content disk.old).reads }
-    ensures read { IsTrue D.tells → Reads (λ id. id) result (left (D.content disk.new).reads span.new)
-        (bytes_at 32 (left (D.content disk.old).reads span.old)) }
+    requires within { IsTrue D.seen.tells → span.old.end ≤ length (D.seen.content disk.old).reads }
+    ensures read { IsTrue D.seen.tells → Reads (λ id. id) result (left (D.seen.content disk.new).reads span.new)
+        (bytes_at 32 (left (D.seen.content disk.old).reads span.old)) }
     ensures size { IfOk result (λ id. length id ≡ 32) }
     ensures end { span.new.end ≡ span.old.end }
     ensures place { OnOk result (span.new.place ≡ span.old.place + 32) }
-    ensures disk { Looks D.tells D.content D.honest D.faults D.last_step disk.old disk.new result }
+    ensures disk { Looks D.seen.tells D.seen.content D.seen.honest D.faults D.last_step disk.old disk.new result }
 {
     let mut bytes = [0; 32];
     read_piece(disk, span, &mut bytes)?;

@@ -21,14 +21,14 @@ pub const POLICY: u8 = 1;
 
 // The next body, which has its length in four bytes before it and a byte behind it. The span then stands at that byte.
 fn open_body<D: Disk>(disk: &mut D, span: &mut Span) -> Result<Span, Stop>
-    requires within { IsTrue D.tells → span.old.end ≤ length (D.content disk.old).reads }
-    ensures read { IsTrue D.tells → Reads (λ body. left (D.content disk.new).reads body) result (left (D.content disk.new).reads span.new)
-        (leaving (counted_at w32) (left (D.content disk.old).reads span.old)) }
+    requires within { IsTrue D.seen.tells → span.old.end ≤ length (D.seen.content disk.old).reads }
+    ensures read { IsTrue D.seen.tells → Reads (λ body. left (D.seen.content disk.new).reads body) result (left (D.seen.content disk.new).reads span.new)
+        (leaving (counted_at w32) (left (D.seen.content disk.old).reads span.old)) }
     ensures end { span.new.end ≡ span.old.end }
     ensures begin { IfOk result (λ body. body.place ≡ span.old.place + 4) }
     ensures behind { IfOk result (λ body. body.end ≡ span.new.place) }
     ensures more { OnOk result (span.new.place < span.new.end) }
-    ensures disk { Looks D.tells D.content D.honest D.faults D.last_step disk.old disk.new result }
+    ensures disk { Looks D.seen.tells D.seen.content D.seen.honest D.faults D.last_step disk.old disk.new result }
 {
     let size = read_u32(disk, span)? as u64;
     if span.end - span.place <= size {
@@ -44,11 +44,11 @@ fn open_body<D: Disk>(disk: &mut D, span: &mut Span) -> Result<Span, Stop>
 
 // The commit that is all of the body.
 fn read_body<D: Disk>(alloc: Global, disk: &mut D, body: Span) -> Result<Commit, Stop>
-    requires within { IsTrue D.tells → body.end ≤ length (D.content disk.old).reads }
-    ensures read { IsTrue D.tells → ReadsAll result (commit_at (left (D.content disk.old).reads body)) }
+    requires within { IsTrue D.seen.tells → body.end ≤ length (D.seen.content disk.old).reads }
+    ensures read { IsTrue D.seen.tells → ReadsAll result (commit_at (left (D.seen.content disk.old).reads body)) }
     ensures form { IfOk result (λ commit. IsCommitForm commit) }
     ensures size { IfOk result (λ commit. Takes commit body.place body.end) }
-    ensures disk { Looks D.tells D.content D.honest D.faults D.last_step disk.old disk.new result }
+    ensures disk { Looks D.seen.tells D.seen.content D.seen.honest D.faults D.last_step disk.old disk.new result }
 {
     let mut rest = body;
     let commit = read_commit(alloc, disk, &mut rest)?;
@@ -60,10 +60,10 @@ fn read_body<D: Disk>(alloc: Global, disk: &mut D, body: Span) -> Result<Commit,
 
 // The digest of a policy that is all of the body.
 fn read_policy_body<D: Disk>(disk: &mut D, body: Span) -> Result<Id, Stop>
-    requires within { IsTrue D.tells → body.end ≤ length (D.content disk.old).reads }
-    ensures read { IsTrue D.tells → ReadsAll result (policy_at (left (D.content disk.old).reads body)) }
+    requires within { IsTrue D.seen.tells → body.end ≤ length (D.seen.content disk.old).reads }
+    ensures read { IsTrue D.seen.tells → ReadsAll result (policy_at (left (D.seen.content disk.old).reads body)) }
     ensures size { OnOk result (body.end ≡ body.place + 33) }
-    ensures disk { Looks D.tells D.content D.honest D.faults D.last_step disk.old disk.new result }
+    ensures disk { Looks D.seen.tells D.seen.content D.seen.honest D.faults D.last_step disk.old disk.new result }
 {
     let mut rest = body;
     let digest = read_policy(disk, &mut rest)?;
@@ -74,12 +74,12 @@ fn read_policy_body<D: Disk>(disk: &mut D, body: Span) -> Result<Id, Stop>
 }
 
 fn read_policy<D: Disk>(disk: &mut D, span: &mut Span) -> Result<Id, Stop>
-    requires within { IsTrue D.tells → span.old.end ≤ length (D.content disk.old).reads }
-    ensures read { IsTrue D.tells → Reads (λ digest. digest) result (left (D.content disk.new).reads span.new)
-        (policy_at (left (D.content disk.old).reads span.old)) }
+    requires within { IsTrue D.seen.tells → span.old.end ≤ length (D.seen.content disk.old).reads }
+    ensures read { IsTrue D.seen.tells → Reads (λ digest. digest) result (left (D.seen.content disk.new).reads span.new)
+        (policy_at (left (D.seen.content disk.old).reads span.old)) }
     ensures end { span.new.end ≡ span.old.end }
     ensures place { OnOk result (span.new.place ≡ span.old.place + 33) }
-    ensures disk { Looks D.tells D.content D.honest D.faults D.last_step disk.old disk.new result }
+    ensures disk { Looks D.seen.tells D.seen.content D.seen.honest D.faults D.last_step disk.old disk.new result }
 {
     if read_u8(disk, span)? != POLICY {
         return Err(Stop::Malformed);
@@ -89,14 +89,14 @@ fn read_policy<D: Disk>(disk: &mut D, span: &mut Span) -> Result<Id, Stop>
 
 /// The record of a commit behind its gate. The span then stands at the next gate, which is there.
 pub fn read_record<D: Disk>(alloc: Global, disk: &mut D, span: &mut Span) -> Result<Commit, Stop>
-    requires within { IsTrue D.tells → span.old.end ≤ length (D.content disk.old).reads }
-    ensures read { IsTrue D.tells → Reads (λ commit. commit) result (left (D.content disk.new).reads span.new)
-        (record_at commit_at (left (D.content disk.old).reads span.old)) }
+    requires within { IsTrue D.seen.tells → span.old.end ≤ length (D.seen.content disk.old).reads }
+    ensures read { IsTrue D.seen.tells → Reads (λ commit. commit) result (left (D.seen.content disk.new).reads span.new)
+        (record_at commit_at (left (D.seen.content disk.old).reads span.old)) }
     ensures end { span.new.end ≡ span.old.end }
     ensures form { IfOk result (λ commit. IsCommitForm commit) }
     ensures size { IfOk result (λ commit. Takes commit (span.old.place + 4) span.new.place) }
     ensures more { OnOk result (span.new.place < span.new.end) }
-    ensures disk { Looks D.tells D.content D.honest D.faults D.last_step disk.old disk.new result }
+    ensures disk { Looks D.seen.tells D.seen.content D.seen.honest D.faults D.last_step disk.old disk.new result }
 {
     let body = open_body(disk, span)?;
     read_body(alloc, disk, body)
@@ -104,13 +104,13 @@ pub fn read_record<D: Disk>(alloc: Global, disk: &mut D, span: &mut Span) -> Res
 
 /// The first record behind its gate: the digest of the journal's policy.
 pub fn read_first<D: Disk>(disk: &mut D, span: &mut Span) -> Result<Id, Stop>
-    requires within { IsTrue D.tells → span.old.end ≤ length (D.content disk.old).reads }
-    ensures read { IsTrue D.tells → Reads (λ digest. digest) result (left (D.content disk.new).reads span.new)
-        (record_at policy_at (left (D.content disk.old).reads span.old)) }
+    requires within { IsTrue D.seen.tells → span.old.end ≤ length (D.seen.content disk.old).reads }
+    ensures read { IsTrue D.seen.tells → Reads (λ digest. digest) result (left (D.seen.content disk.new).reads span.new)
+        (record_at policy_at (left (D.seen.content disk.old).reads span.old)) }
     ensures end { span.new.end ≡ span.old.end }
     ensures place { OnOk result (span.new.place ≡ span.old.place + 37) }
     ensures more { OnOk result (span.new.place < span.new.end) }
-    ensures disk { Looks D.tells D.content D.honest D.faults D.last_step disk.old disk.new result }
+    ensures disk { Looks D.seen.tells D.seen.content D.seen.honest D.faults D.last_step disk.old disk.new result }
 {
     let body = open_body(disk, span)?;
     read_policy_body(disk, body)

@@ -32,11 +32,11 @@ fn policy_record(digest: &Id) -> [u8; 38]
 
 /// Writes a closed first gate on a disk shorter than two bytes, and then the first record.
 pub fn start_short<D: Disk>(disk: &mut D, digest: &Id) -> Result<(), DiskStep>
-    ensures any_moment { IsTrue D.tells → IsTrue (D.honest disk.old) → (entry : Content) → StartsOn true digest.now entry (D.content disk.old) →
-        LeavesOnly entry (D.content disk.new) (WasOrReadsAlike digest.now entry) }
-    ensures settled { IsTrue D.tells → IsTrue (D.honest disk.old) → (entry : Content) → StartsOn true digest.now entry (D.content disk.old) →
-        OnOk result (IsSettled (D.content disk.new) (outline_of []) digest.now []) }
-    ensures disk { Writes D.honest D.faults D.last_step disk.old disk.new result }
+    ensures any_moment { IsTrue D.seen.tells → IsTrue (D.seen.honest disk.old) → (entry : Content) → StartsOn true digest.now entry (D.seen.content disk.old) →
+        LeavesOnly entry (D.seen.content disk.new) (WasOrReadsAlike digest.now entry) }
+    ensures settled { IsTrue D.seen.tells → IsTrue (D.seen.honest disk.old) → (entry : Content) → StartsOn true digest.now entry (D.seen.content disk.old) →
+        OnOk result (IsSettled (D.seen.content disk.new) (outline_of []) digest.now []) }
+    ensures disk { Writes D.seen.honest D.faults D.last_step disk.old disk.new result }
 {
     let record = policy_record(digest);
     write_through(disk, 0, &[CLOSED])?;
@@ -45,12 +45,12 @@ pub fn start_short<D: Disk>(disk: &mut D, digest: &Id) -> Result<(), DiskStep>
 
 /// Writes the first record behind a closed first gate.
 pub fn start_fresh<D: Disk>(disk: &mut D, digest: &Id) -> Result<(), DiskStep>
-    requires inside { IsTrue D.tells → IsTrue (D.honest disk.old) → 0 < length (D.content disk.old).reads }
-    ensures any_moment { IsTrue D.tells → IsTrue (D.honest disk.old) → (entry : Content) → StartsOn false digest.now entry (D.content disk.old) →
-        LeavesOnly entry (D.content disk.new) (WasOrReadsAlike digest.now entry) }
-    ensures settled { IsTrue D.tells → IsTrue (D.honest disk.old) → (entry : Content) → StartsOn false digest.now entry (D.content disk.old) →
-        OnOk result (IsSettled (D.content disk.new) (outline_of []) digest.now []) }
-    ensures disk { Writes D.honest D.faults D.last_step disk.old disk.new result }
+    requires inside { IsTrue D.seen.tells → IsTrue (D.seen.honest disk.old) → 0 < length (D.seen.content disk.old).reads }
+    ensures any_moment { IsTrue D.seen.tells → IsTrue (D.seen.honest disk.old) → (entry : Content) → StartsOn false digest.now entry (D.seen.content disk.old) →
+        LeavesOnly entry (D.seen.content disk.new) (WasOrReadsAlike digest.now entry) }
+    ensures settled { IsTrue D.seen.tells → IsTrue (D.seen.honest disk.old) → (entry : Content) → StartsOn false digest.now entry (D.seen.content disk.old) →
+        OnOk result (IsSettled (D.seen.content disk.new) (outline_of []) digest.now []) }
+    ensures disk { Writes D.seen.honest D.faults D.last_step disk.old disk.new result }
 {
     let record = policy_record(digest);
     write_record(disk, 0, &record)

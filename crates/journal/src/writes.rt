@@ -7,9 +7,9 @@ use outside::{Disk, DiskStep};
 
 /// Writes the piece and makes sure of it.
 pub fn write_through<D: Disk>(disk: &mut D, at: u64, piece: &[u8]) -> Result<(), DiskStep>
-    requires { IsTrue D.tells → IsTrue (D.honest disk.old) → at ≤ length (D.content disk.old).reads }
-    ensures written { IsTrue D.tells → IsTrue (D.honest disk.old) → WritesThrough at piece.now (D.content disk.old) (D.content disk.new) result }
-    ensures disk { Writes D.honest D.faults D.last_step disk.old disk.new result }
+    requires { IsTrue D.seen.tells → IsTrue (D.seen.honest disk.old) → at ≤ length (D.seen.content disk.old).reads }
+    ensures written { IsTrue D.seen.tells → IsTrue (D.seen.honest disk.old) → WritesThrough at piece.now (D.seen.content disk.old) (D.seen.content disk.new) result }
+    ensures disk { Writes D.seen.honest D.faults D.last_step disk.old disk.new result }
 {
     if disk.write_at(at, piece).is_err() {
         return Err(DiskStep::Write);
@@ -22,10 +22,10 @@ pub fn write_through<D: Disk>(disk: &mut D, at: u64, piece: &[u8]) -> Result<(),
 
 /// Writes the bytes behind the closed gate at this place, makes sure of them, and then opens the gate.
 pub fn write_record<D: Disk>(disk: &mut D, gate: u64, bytes: &[u8]) -> Result<(), DiskStep>
-    requires inside { IsTrue D.tells → IsTrue (D.honest disk.old) → gate < length (D.content disk.old).reads }
+    requires inside { IsTrue D.seen.tells → IsTrue (D.seen.honest disk.old) → gate < length (D.seen.content disk.old).reads }
     requires room { gate < 2 ^ 63 }
-    ensures written { IsTrue D.tells → IsTrue (D.honest disk.old) → WritesRecord gate bytes.now (D.content disk.old) (D.content disk.new) result }
-    ensures disk { Writes D.honest D.faults D.last_step disk.old disk.new result }
+    ensures written { IsTrue D.seen.tells → IsTrue (D.seen.honest disk.old) → WritesRecord gate bytes.now (D.seen.content disk.old) (D.seen.content disk.new) result }
+    ensures disk { Writes D.seen.honest D.faults D.last_step disk.old disk.new result }
 {
     write_through(disk, gate + 1, bytes)?;
     write_through(disk, gate, &[OPEN])

@@ -1,5 +1,5 @@
 -- A disk's content: what a read gives, what a crash may leave, and what the calls do to both.
-use Rattle.std.specs.Prelude.{◌≡◌, ◌⊎◌, ℕ, ◌+◌, ◌-◌, ◌<◌, ◌≤◌, min, max, List, [], ◌∷◌, ◌++◌, All, length, slice_index, take, drop, Option, Some, Result, Ok, Err}
+use Rattle.std.specs.Prelude.{◌≡◌, ◌⊎◌, ℕ, ◌+◌, ◌-◌, ◌<◌, ◌≤◌, min, max, Bool, List, [], ◌∷◌, ◌++◌, All, length, slice_index, take, drop, Option, Some, Result, Ok, Err}
 use Rattle.outside.specs.declared.faults.Failed.{Failed}
 use Rattle.outside.specs.declared.faults.DiskStep.{DiskStep}
 
@@ -15,6 +15,13 @@ pub record Content : Type 0 where
   pub reads : List ℕ
   pub now : Moment
   pub past : List Moment
+
+-- what contracts see of the disks of a type: whether they tell their content; the content, where it is told; and whether a disk
+-- keeps the rules of writes and syncs
+pub record DiskView (D : Type 0) : Type 0 where
+  pub tells : Bool
+  pub content : D → Content
+  pub honest : D → Bool
 
 -- the place behind the last byte, of so many bytes and of the ranges
 abbrev pub furthest : List (ℕ × ℕ) → ℕ → ℕ

@@ -131,11 +131,7 @@ impl<R: rt::Files + Drop> FileDisk<R> {
 }
 
 impl<R: rt::Files + Drop> Disk for FileDisk<R> {
-    ghost tells = { false };
-
-    ghost content = { λ disk. content_at_rest [] };
-
-    ghost honest = { λ disk. true };
+    ghost seen = { record { tells = false; content = λ disk. content_at_rest []; honest = λ disk. true } };
 
     ghost faults = { file_disk_faults };
 

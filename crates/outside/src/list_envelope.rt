@@ -31,9 +31,7 @@ impl ListEnvelope {
 impl Envelope for ListEnvelope {
     ghost use Rattle.outside.specs.working.EnvelopeLaw.{is_plain_tag-plain_tag};
 
-    ghost good = { is_plain_tag };
-
-    ghost tag_of = { Some plain_tag };
+    ghost seen = { record { good = is_plain_tag; told = Some plain_tag } };
 
     ghost faults = { λ envelope. (envelope_plan envelope).faults };
 

@@ -59,11 +59,7 @@ fn fill(bytes: &[u8], at: u64, into: &mut [u8]) -> usize
 }
 
 impl Disk for MemoryDisk {
-    ghost tells = { true };
-
-    ghost content = { disk_content };
-
-    ghost honest = { λ disk. true };
+    ghost seen = { record { tells = true; content = disk_content; honest = λ disk. true } };
 
     ghost faults = { λ disk. (disk_plan disk).faults };
 

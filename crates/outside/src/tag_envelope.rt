@@ -15,9 +15,7 @@ impl Envelope for TagEnvelope {
     ghost use Rattle.std.proofs.Common.{lit<};
     ghost use Rattle.outside.specs.working.EnvelopeLaw.{is_plain_tag-plain_tag};
 
-    ghost good = { is_plain_tag };
-
-    ghost tag_of = { Some plain_tag };
+    ghost seen = { record { good = is_plain_tag; told = Some plain_tag } };
 
     ghost faults = { λ envelope. 0 };
 

@@ -14,10 +14,10 @@ use Rattle.journal.specs.declared.commit.Commit.{Commit}
 use Rattle.journal.specs.declared.commit.Commit.TheVariants.{Graph, Commands}
 use Rattle.journal.specs.declared.journal.Journal.{Journal}
 use Rattle.outside.specs.Crashes.{LeavesOnly, MayLeave, clock, moments, moments_since}
-use Rattle.outside.specs.Disk.{Content, IsImage}
+use Rattle.outside.specs.Disk.{Content, DiskView, IsImage}
 use Rattle.outside.specs.declared.faults.DiskStep.{DiskStep}
 use Rattle.outside.proofs.Crashes.{no_calls, weaker}
-use Rattle.replica.specs.Disks.{FailsWithDisk, Sense}
+use Rattle.replica.specs.Disks.{FailsWithDisk}
 use Rattle.replica.specs.Fronts.{Front, behind_commit, behind_commits, front_of, no_front}
 use Rattle.replica.specs.Kept.{loose_of}
 use Rattle.replica.specs.Steps.{IsChange}
@@ -100,19 +100,19 @@ leaves_now old new P only image may = only.each image (subst (λ all. Any (λ mo
     first : moments_since new (clock old) ≡ new.now ∷ take (length only.later.added) new.past
     first = ap (λ n. take n (moments new)) several
 
-module _ {D : Type 0} (sense : Sense D) (digest : List ℕ) (survives : SurvivesSettled) where
+module _ {D : Type 0} (view : DiskView D) (digest : List ℕ) (survives : SurvivesSettled) where
   reads_by : (content : Content) (outline : Outline) (held : Held) (down : Option Down) → IsHeldBy content outline digest held down → (image : List ℕ) → MayLeave content image → ReadsHeld digest held (loose_of down) image
   reads_by content outline held None is image may = (is.0, is.1, inl (survives content outline digest is.0 is.2 image may))
   reads_by content outline held (Some down) is image may = (is.0, is.1, is.2 image may)
 
   -- what a crash leaves of a replica's disk reads as what it holds, or as that with the loose commit
-  pub reads_backed : (held : Held) (down : Option Down) (journal : Journal D) → IsBacked sense digest held down journal → IsTrue sense.tells → IsTrue (sense.honest (journal_disk journal)) → (image : List ℕ)
-      → MayLeave (sense.content (journal_disk journal)) image → ReadsHeld digest held (loose_of down) image
-  reads_backed held down journal is told honest image may = reads_by (sense.content (journal_disk journal)) (journal_outline journal) held down (is.backed told honest) image may
+  pub reads_backed : (held : Held) (down : Option Down) (journal : Journal D) → IsBacked view digest held down journal → IsTrue view.tells → IsTrue (view.honest (journal_disk journal)) → (image : List ℕ)
+      → MayLeave (view.content (journal_disk journal)) image → ReadsHeld digest held (loose_of down) image
+  reads_backed held down journal is told honest image may = reads_by (view.content (journal_disk journal)) (journal_outline journal) held down (is.backed told honest) image may
 
 -- ---- one commit
 
-module _ {D : Type 0} (sense : Sense D) (faults : D → ℕ) (last_step : D → Option DiskStep) (digest : List ℕ) (target held : Held) (commit : Commit) (old new : Journal D) (is : IsBacked sense digest held None old)
+module _ {D : Type 0} (view : DiskView D) (faults : D → ℕ) (last_step : D → Option DiskStep) (digest : List ℕ) (target held : Held) (commit : Commit) (old new : Journal D) (is : IsBacked view digest held None old)
     (leads : front_of target ≡ behind_commit (front_of held) commit) where
   counted : CanAdd (journal_outline old) commit → journal_outline new ≡ outline_behind (journal_outline old) commit → (journal_outline new).commands ≡ length target.commands
   counted can same = by commit can leads (ap (λ o. o.commands) same)
@@ -144,7 +144,7 @@ module _ {D : Type 0} (sense : Sense D) (faults : D → ℕ) (last_step : D → 
   further commits lead = behind_one_more no_front commits commit ∙ ap (λ f. behind_commit f commit) lead ∙ sym leads
 
   -- the disk has the commit
-  pub backed_with : {T : Type 0} (down new_down : Option Down) (x : T) → CanAdd (journal_outline old) commit → Writes sense faults last_step commit down old (Ok x) new_down new → IsBacked sense digest target None new
+  pub backed_with : {T : Type 0} (down new_down : Option Down) (x : T) → CanAdd (journal_outline old) commit → Writes view faults last_step commit down old (Ok x) new_down new → IsBacked view digest target None new
   backed_with down new_down x can writes = record {
     commands = counted can writes.ends.1;
     fresh = ap (λ o. o.is_fresh) writes.ends.1 ∙ sym (named can);
@@ -155,10 +155,10 @@ module _ {D : Type 0} (sense : Sense D) (faults : D → ℕ) (last_step : D → 
   }
 
   -- the disk may have the commit
-  pub backed_loosely : (step : DiskStep) → journal_outline new ≡ journal_outline old → sense.honest (journal_disk new) ≡ sense.honest (journal_disk old)
-      → (IsTrue sense.tells → IsTrue (sense.honest (journal_disk old)) → (d : List ℕ) (commits : List Commit) → IsSettled (sense.content (journal_disk old)) (journal_outline old) d commits
-      → LeavesOnly (sense.content (journal_disk old)) (sense.content (journal_disk new)) (IsBeforeOrAfter d commits commit))
-      → IsBacked sense digest held (Some (record { step = step; loose = Some commit })) new
+  pub backed_loosely : (step : DiskStep) → journal_outline new ≡ journal_outline old → view.honest (journal_disk new) ≡ view.honest (journal_disk old)
+      → (IsTrue view.tells → IsTrue (view.honest (journal_disk old)) → (d : List ℕ) (commits : List Commit) → IsSettled (view.content (journal_disk old)) (journal_outline old) d commits
+      → LeavesOnly (view.content (journal_disk old)) (view.content (journal_disk new)) (IsBeforeOrAfter d commits commit))
+      → IsBacked view digest held (Some (record { step = step; loose = Some commit })) new
   backed_loosely step same same_honest leaves = record {
     commands = ap (λ o. o.commands) same ∙ is.commands;
     fresh = ap (λ o. o.is_fresh) same ∙ is.fresh;
@@ -168,7 +168,7 @@ module _ {D : Type 0} (sense : Sense D) (faults : D → ℕ) (last_step : D → 
         let before = is.backed told was in (
           before.0,
           before.1,
-          λ image may. loosely before.0 image (leaves_now (sense.content (journal_disk old)) (sense.content (journal_disk new)) (IsBeforeOrAfter digest before.0 commit) (leaves told was digest before.0 before.2) image may),
+          λ image may. loosely before.0 image (leaves_now (view.content (journal_disk old)) (view.content (journal_disk new)) (IsBeforeOrAfter digest before.0 commit) (leaves told was digest before.0 before.2) image may),
         );
   }
     where
@@ -177,23 +177,23 @@ module _ {D : Type 0} (sense : Sense D) (faults : D → ℕ) (last_step : D → 
       loosely commits image (inr behind) = inr (commit, refl, behind)
 
   -- meanwhile
-  pub meanwhile : {T : Type 0} (down : Option Down) (result : Result T Refusal) (new_down : Option Down) → Writes sense faults last_step commit down old result new_down new → (now : Held) (loose : Option Commit)
+  pub meanwhile : {T : Type 0} (down : Option Down) (result : Result T Refusal) (new_down : Option Down) → Writes view faults last_step commit down old result new_down new → (now : Held) (loose : Option Commit)
       → ((commits : List Commit) (image : List ℕ) → LeadTo commits held → LeadTo (commits ++ commit ∷ []) target → IsBeforeOrAfter digest commits commit image → ReadsHeld digest held None image ⊎ ReadsHeld digest now loose image)
-      → IsTrue sense.tells → IsTrue (sense.honest (journal_disk old))
-      → LeavesOnly (sense.content (journal_disk old)) (sense.content (journal_disk new)) (λ image. ReadsHeld digest held None image ⊎ ReadsHeld digest now loose image)
+      → IsTrue view.tells → IsTrue (view.honest (journal_disk old))
+      → LeavesOnly (view.content (journal_disk old)) (view.content (journal_disk new)) (λ image. ReadsHeld digest held None image ⊎ ReadsHeld digest now loose image)
   meanwhile down result new_down writes now loose reads told honest =
       let before = is.backed told honest in
-      weaker (sense.content (journal_disk old)) (sense.content (journal_disk new)) (IsBeforeOrAfter digest before.0 commit) (λ image. ReadsHeld digest held None image ⊎ ReadsHeld digest now loose image)
+      weaker (view.content (journal_disk old)) (view.content (journal_disk new)) (IsBeforeOrAfter digest before.0 commit) (λ image. ReadsHeld digest held None image ⊎ ReadsHeld digest now loose image)
       (λ image. reads before.0 image before.1 (further before.0 before.1)) (writes.moments told honest digest before.0 before.2)
 
 -- nothing is written where memory lacks
-pub writes_lacking : {D T : Type 0} (sense : Sense D) (faults : D → ℕ) (last_step : D → Option DiskStep) → SurvivesSettled → (commit : Commit) (down : Option Down) (journal : Journal D) →
-    Writes sense faults last_step {T = T} commit down journal (Err refusal.NoMemory) down journal
-writes_lacking sense faults last_step survives commit down journal = record {
+pub writes_lacking : {D T : Type 0} (view : DiskView D) (faults : D → ℕ) (last_step : D → Option DiskStep) → SurvivesSettled → (commit : Commit) (down : Option Down) (journal : Journal D) →
+    Writes view faults last_step {T = T} commit down journal (Err refusal.NoMemory) down journal
+writes_lacking view faults last_step survives commit down journal = record {
   ends = inl (refl, refl, refl);
   settled = λ told honest digest commits is. tt;
-  moments = λ told honest digest commits is. no_calls (sense.content (journal_disk journal)) (IsBeforeOrAfter digest commits commit)
-      (λ image may. inl (survives (sense.content (journal_disk journal)) (journal_outline journal) digest commits is image may));
+  moments = λ told honest digest commits is. no_calls (view.content (journal_disk journal)) (IsBeforeOrAfter digest commits commit)
+      (λ image may. inl (survives (view.content (journal_disk journal)) (journal_outline journal) digest commits is image may));
   honest = refl;
   disk = record { later = omega arith; cause = λ step no_fault. absurd cc };
 }
@@ -207,9 +207,9 @@ module _ {D T U : Type 0} (faults : D → ℕ) (last_step : D → Option DiskSte
   works_as x y is = record { later = is.later; cause = λ step same. absurd cc }
 
 -- a commit of commands is one whose commands are handed back
-pub writes_as : {D T U : Type 0} (sense : Sense D) (faults : D → ℕ) (last_step : D → Option DiskStep) (commit : Commit) (down : Option Down) (old : Journal D) (x : T) (y : U) (new_down : Option Down) (new : Journal D) →
-    Writes sense faults last_step {T = T} commit down old (Ok x) new_down new → Writes sense faults last_step {T = U} commit down old (Ok y) new_down new
-writes_as sense faults last_step commit down old x y new_down new is = record {
+pub writes_as : {D T U : Type 0} (view : DiskView D) (faults : D → ℕ) (last_step : D → Option DiskStep) (commit : Commit) (down : Option Down) (old : Journal D) (x : T) (y : U) (new_down : Option Down) (new : Journal D) →
+    Writes view faults last_step {T = T} commit down old (Ok x) new_down new → Writes view faults last_step {T = U} commit down old (Ok y) new_down new
+writes_as view faults last_step commit down old x y new_down new is = record {
   ends = is.ends;
   settled = is.settled;
   moments = is.moments;
@@ -217,9 +217,9 @@ writes_as sense faults last_step commit down old x y new_down new is = record {
   disk = works_as faults last_step (journal_disk old) (journal_disk new) x y is.disk;
 }
 
-pub writes_not_as : {D T U : Type 0} (sense : Sense D) (faults : D → ℕ) (last_step : D → Option DiskStep) (commit : Commit) (down : Option Down) (old : Journal D) (why : Refusal) (new_down : Option Down) (new : Journal D) →
-    Writes sense faults last_step {T = T} commit down old (Err why) new_down new → Writes sense faults last_step {T = U} commit down old (Err why) new_down new
-writes_not_as sense faults last_step commit down old why new_down new is = record {
+pub writes_not_as : {D T U : Type 0} (view : DiskView D) (faults : D → ℕ) (last_step : D → Option DiskStep) (commit : Commit) (down : Option Down) (old : Journal D) (why : Refusal) (new_down : Option Down) (new : Journal D) →
+    Writes view faults last_step {T = T} commit down old (Err why) new_down new → Writes view faults last_step {T = U} commit down old (Err why) new_down new
+writes_not_as view faults last_step commit down old why new_down new is = record {
   ends = is.ends;
   settled = is.settled;
   moments = is.moments;
@@ -229,22 +229,22 @@ writes_not_as sense faults last_step commit down old why new_down new is = recor
 
 -- ---- what a call comes to that is to hold the target
 
-module _ {D : Type 0} (sense : Sense D) (faults : D → ℕ) (last_step : D → Option DiskStep) (survives : SurvivesSettled) (digest : List ℕ) (target held : Held) (down : Option Down) (old : Journal D) (up : down ≡ None)
-    (is : IsBacked sense digest held None old) where
+module _ {D : Type 0} (view : DiskView D) (faults : D → ℕ) (last_step : D → Option DiskStep) (survives : SurvivesSettled) (digest : List ℕ) (target held : Held) (down : Option Down) (old : Journal D) (up : down ≡ None)
+    (is : IsBacked view digest held None old) where
   abbrev before : Parts D
   before = record { held = held; down = down; journal = old }
 
-  still : IsTrue sense.tells → IsTrue (sense.honest (journal_disk old))
-      → LeavesOnly (sense.content (journal_disk old)) (sense.content (journal_disk old)) (λ image. ReadsHeld digest held None image ⊎ ReadsHeld digest held (loose_of down) image)
+  still : IsTrue view.tells → IsTrue (view.honest (journal_disk old))
+      → LeavesOnly (view.content (journal_disk old)) (view.content (journal_disk old)) (λ image. ReadsHeld digest held None image ⊎ ReadsHeld digest held (loose_of down) image)
   still told honest =
-      no_calls (sense.content (journal_disk old)) (λ image. ReadsHeld digest held None image ⊎ ReadsHeld digest held (loose_of down) image)
-      (λ image may. inl (reads_backed sense digest survives held None old is told honest image may))
+      no_calls (view.content (journal_disk old)) (λ image. ReadsHeld digest held None image ⊎ ReadsHeld digest held (loose_of down) image)
+      (λ image may. inl (reads_backed view digest survives held None old is told honest image may))
 
-  backed_still : IsBacked sense digest held down old
-  backed_still = subst (λ d. IsBacked sense digest held d old) (sym up) is
+  backed_still : IsBacked view digest held down old
+  backed_still = subst (λ d. IsBacked view digest held d old) (sym up) is
 
   -- where it is held already
-  pub commits_nothing : {T : Type 0} (x : T) → held ≡ target → Commits sense faults last_step digest target before (Ok x) before
+  pub commits_nothing : {T : Type 0} (x : T) → held ≡ target → Commits view faults last_step digest target before (Ok x) before
   commits_nothing x same = record {
     ends = (same, up, λ alike. refl);
     backed = backed_still;
@@ -254,7 +254,7 @@ module _ {D : Type 0} (sense : Sense D) (faults : D → ℕ) (last_step : D → 
   }
 
   -- where memory lacks before anything is written
-  pub commits_lacking : {T : Type 0} → Commits sense faults last_step {T = T} digest target before (Err refusal.NoMemory) before
+  pub commits_lacking : {T : Type 0} → Commits view faults last_step {T = T} digest target before (Err refusal.NoMemory) before
   commits_lacking = record {
     ends = inl (refl, refl);
     backed = backed_still;
@@ -265,14 +265,14 @@ module _ {D : Type 0} (sense : Sense D) (faults : D → ℕ) (last_step : D → 
 
   module _ (commit : Commit) (new_down : Option Down) (new : Journal D) (can : CanAdd (journal_outline old) commit) (leads : front_of target ≡ behind_commit (front_of held) commit) where
     -- where the commit is written, and the target is held
-    pub commits_done : {T U : Type 0} (x : T) (y : U) (now : Held) → Writes sense faults last_step commit down old (Ok x) new_down new → now ≡ target
-        → Commits sense faults last_step digest target before (Ok y) (record { held = now; down = new_down; journal = new })
+    pub commits_done : {T U : Type 0} (x : T) (y : U) (now : Held) → Writes view faults last_step commit down old (Ok x) new_down new → now ≡ target
+        → Commits view faults last_step digest target before (Ok y) (record { held = now; down = new_down; journal = new })
     commits_done x y now writes same =
         let rises : new_down ≡ None = writes.ends.0 ∙ up in
-        let backed = backed_with sense faults last_step digest target held commit old new is leads down new_down x can writes in record {
-          ends = (same, rises, λ alike. absurd (changes sense faults last_step digest target held commit old new is leads can alike));
-          backed = subst (λ d. IsBacked sense digest now d new) (sym rises) (subst (λ h. IsBacked sense digest h None new) (sym same) backed);
-          moments = meanwhile sense faults last_step digest target held commit old new is leads down (Ok x) new_down writes now (loose_of new_down)
+        let backed = backed_with view faults last_step digest target held commit old new is leads down new_down x can writes in record {
+          ends = (same, rises, λ alike. absurd (changes view faults last_step digest target held commit old new is leads can alike));
+          backed = subst (λ d. IsBacked view digest now d new) (sym rises) (subst (λ h. IsBacked view digest h None new) (sym same) backed);
+          moments = meanwhile view faults last_step digest target held commit old new is leads down (Ok x) new_down writes now (loose_of new_down)
               (λ commits image lead leads_further reads. done commits image lead (subst (λ h. LeadTo (commits ++ commit ∷ []) h) (sym same) leads_further) reads);
           honest = writes.honest;
           disk = works_as faults last_step (journal_disk old) (journal_disk new) x y writes.disk;
@@ -284,8 +284,8 @@ module _ {D : Type 0} (sense : Sense D) (faults : D → ℕ) (last_step : D → 
         done commits image lead leads_further (inr reads) = inr (commits ++ commit ∷ [], leads_further, inl reads)
 
     -- where it isn't
-    pub commits_failed : {T U : Type 0} (why : Refusal) → Writes sense faults last_step {T = T} commit down old (Err why) new_down new
-        → Commits sense faults last_step {T = U} digest target before (Err why) (record { held = held; down = new_down; journal = new })
+    pub commits_failed : {T U : Type 0} (why : Refusal) → Writes view faults last_step {T = T} commit down old (Err why) new_down new
+        → Commits view faults last_step {T = U} digest target before (Err why) (record { held = held; down = new_down; journal = new })
     commits_failed {T} {U} why writes = by writes.ends
       where
         loosely : (commits : List Commit) (image : List ℕ) → LeadTo commits held → LeadTo (commits ++ commit ∷ []) target → IsBeforeOrAfter digest commits commit image
@@ -293,17 +293,17 @@ module _ {D : Type 0} (sense : Sense D) (faults : D → ℕ) (last_step : D → 
         loosely commits image lead leads_further (inl reads) = inl (commits, lead, inl reads)
         loosely commits image lead leads_further (inr reads) = inr (commits, lead, inr (commit, refl, reads))
 
-        by : EndsWriting {T = T} commit down old (Err why) new_down new → Commits sense faults last_step {T = U} digest target before (Err why) (record { held = held; down = new_down; journal = new })
+        by : EndsWriting {T = T} commit down old (Err why) new_down new → Commits view faults last_step {T = U} digest target before (Err why) (record { held = held; down = new_down; journal = new })
         by (inl lacks) =
-            subst (λ d. Commits sense faults last_step {T = U} digest target before (Err why) (record { held = held; down = d; journal = new })) (sym lacks.1)
-            (subst (λ j. Commits sense faults last_step {T = U} digest target before (Err why) (record { held = held; down = down; journal = j })) (sym lacks.2)
-            (subst (λ w. Commits sense faults last_step {T = U} digest target before (Err w) before) (sym lacks.0) commits_lacking))
+            subst (λ d. Commits view faults last_step {T = U} digest target before (Err why) (record { held = held; down = d; journal = new })) (sym lacks.1)
+            (subst (λ j. Commits view faults last_step {T = U} digest target before (Err why) (record { held = held; down = down; journal = j })) (sym lacks.2)
+            (subst (λ w. Commits view faults last_step {T = U} digest target before (Err w) before) (sym lacks.0) commits_lacking))
         by (inr fails) =
             let falls : new_down ≡ Some (record { step = fails.0; loose = Some commit }) = fails.2 in
             let loose : Some commit ≡ loose_of new_down = ap loose_of (sym falls) in record {
-              ends = inr (fails.0, commit, fails.1, is_change sense faults last_step digest target held commit old new is leads can, leads, refl, falls, fails.3);
-              backed = subst (λ d. IsBacked sense digest held d new) (sym falls) (backed_loosely sense faults last_step digest target held commit old new is leads fails.0 fails.3 writes.honest writes.moments);
-              moments = meanwhile sense faults last_step digest target held commit old new is leads down (Err why) new_down writes held (loose_of new_down)
+              ends = inr (fails.0, commit, fails.1, is_change view faults last_step digest target held commit old new is leads can, leads, refl, falls, fails.3);
+              backed = subst (λ d. IsBacked view digest held d new) (sym falls) (backed_loosely view faults last_step digest target held commit old new is leads fails.0 fails.3 writes.honest writes.moments);
+              moments = meanwhile view faults last_step digest target held commit old new is leads down (Err why) new_down writes held (loose_of new_down)
                   (λ commits image lead leads_further reads. subst (λ l. ReadsHeld digest held None image ⊎ ReadsHeld digest held l image) loose (loosely commits image lead leads_further reads));
               honest = writes.honest;
               disk = fails_as faults last_step (journal_disk old) (journal_disk new) why writes.disk;

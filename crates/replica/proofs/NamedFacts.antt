@@ -9,7 +9,7 @@ use Rattle.journal.specs.declared.commit.Commit.{Commit}
 use Rattle.journal.specs.declared.commit.Commit.TheVariants.{Graph}
 use Rattle.journal.specs.declared.journal.Journal.{Journal}
 use Rattle.outside.specs.declared.faults.DiskStep.{DiskStep}
-use Rattle.replica.specs.Disks.{Sense}
+use Rattle.outside.specs.Disk.{DiskView}
 use Rattle.replica.specs.Kept.{IsReplica, any_tag}
 use Rattle.replica.specs.declared.down.Down.{Down}
 use Rattle.replica.specs.declared.refusal.Refusal.{Refusal}
@@ -30,8 +30,8 @@ named_sound criteria None id cs none sound = record {
 }
 named_sound criteria (Some other) id cs none sound = absurd cc
 
-module _ {D : Type 0} (sense : Sense D) (faults : D → ℕ) (last_step : D → Option DiskStep) (survives : SurvivesSettled) (criteria : Criteria) (held : Held) (id : List ℕ) (down : Option Down) (old : Journal D) (up : down ≡ None)
-    (unnamed : held.graph_id ≡ None) (replica : IsReplica criteria.policy criteria.digest held) (backed : IsBacked sense criteria.digest held None old) where
+module _ {D : Type 0} (view : DiskView D) (faults : D → ℕ) (last_step : D → Option DiskStep) (survives : SurvivesSettled) (criteria : Criteria) (held : Held) (id : List ℕ) (down : Option Down) (old : Journal D) (up : down ≡ None)
+    (unnamed : held.graph_id ≡ None) (replica : IsReplica criteria.policy criteria.digest held) (backed : IsBacked view criteria.digest held None old) where
   abbrev named : Held
   named = record { graph_id = Some id; commands = held.commands; rows = held.rows; entries = held.entries }
 
@@ -42,8 +42,8 @@ module _ {D : Type 0} (sense : Sense D) (faults : D → ℕ) (last_step : D → 
   can_name : CanAdd (journal_outline old) (Graph id)
   can_name = backed.fresh ∙ ap is_none unnamed
 
-  gave : (result : Result (Unit {0}) Refusal) (new : Parts D) → Commits sense faults last_step criteria.digest named before result new
-      → Gave sense faults last_step criteria (λ reply h. (held.graph_id ≡ None) × (h ≡ named)) before result new
+  gave : (result : Result (Unit {0}) Refusal) (new : Parts D) → Commits view faults last_step criteria.digest named before result new
+      → Gave view faults last_step criteria (λ reply h. (held.graph_id ≡ None) × (h ≡ named)) before result new
   gave result new commits = record {
     reply = tt;
     target = named;
@@ -57,14 +57,14 @@ module _ {D : Type 0} (sense : Sense D) (faults : D → ℕ) (last_step : D → 
     commits = commits;
   }
 
-  pub named_done : (commit : Commit) (now : Held) (new_down : Option Down) (new : Journal D) → Writes sense faults last_step (Graph id) down old (Ok commit) new_down new → now ≡ named
-      → Gave sense faults last_step criteria (λ reply h. (held.graph_id ≡ None) × (h ≡ named)) before (Ok (tt {0})) (record { held = now; down = new_down; journal = new })
+  pub named_done : (commit : Commit) (now : Held) (new_down : Option Down) (new : Journal D) → Writes view faults last_step (Graph id) down old (Ok commit) new_down new → now ≡ named
+      → Gave view faults last_step criteria (λ reply h. (held.graph_id ≡ None) × (h ≡ named)) before (Ok (tt {0})) (record { held = now; down = new_down; journal = new })
   named_done commit now new_down new writes same =
       gave (Ok (tt {0})) (record { held = now; down = new_down; journal = new })
-      (commits_done sense faults last_step survives criteria.digest named held down old up backed (Graph id) new_down new can_name refl commit (tt {0}) now writes same)
+      (commits_done view faults last_step survives criteria.digest named held down old up backed (Graph id) new_down new can_name refl commit (tt {0}) now writes same)
 
-  pub named_failed : (why : Refusal) (new_down : Option Down) (new : Journal D) → Writes sense faults last_step {T = Commit} (Graph id) down old (Err why) new_down new
-      → Gave sense faults last_step criteria {T = Unit {0}} (λ reply h. (held.graph_id ≡ None) × (h ≡ named)) before (Err why) (record { held = held; down = new_down; journal = new })
+  pub named_failed : (why : Refusal) (new_down : Option Down) (new : Journal D) → Writes view faults last_step {T = Commit} (Graph id) down old (Err why) new_down new
+      → Gave view faults last_step criteria {T = Unit {0}} (λ reply h. (held.graph_id ≡ None) × (h ≡ named)) before (Err why) (record { held = held; down = new_down; journal = new })
   named_failed why new_down new writes =
       gave (Err why) (record { held = held; down = new_down; journal = new })
-      (commits_failed sense faults last_step survives criteria.digest named held down old up backed (Graph id) new_down new can_name refl why writes)
+      (commits_failed view faults last_step survives criteria.digest named held down old up backed (Graph id) new_down new can_name refl why writes)

@@ -16,10 +16,10 @@ use Rattle.journal.specs.declared.fault.OpenFault.{OpenFault}
 use Rattle.journal.specs.declared.fault.OpenFault.TheVariants as fault
 use Rattle.journal.specs.declared.journal.Journal.{Journal}
 use Rattle.outside.specs.Crashes.{LeavesOnly, MayLeave}
-use Rattle.outside.specs.Disk.{Content}
+use Rattle.outside.specs.Disk.{Content, DiskView}
 use Rattle.outside.specs.declared.faults.DiskStep.{DiskStep}
 use Rattle.policy_ast.specs.declared.policy.PlacedItem.{PlacedItem}
-use Rattle.replica.specs.Disks.{AreSoundFronts, IsTrusted, Sense, Survives}
+use Rattle.replica.specs.Disks.{AreSoundFronts, IsTrusted, Survives}
 use Rattle.replica.specs.Fronts.{Admits, AnswersOpening, Front, Opening, Opens, OpensAs, OpensReading, behind_commit, behind_commits, front_of, no_front}
 use Rattle.replica.specs.Kept.{loose_of}
 use Rattle.replica.specs.declared.down.Down.{Down}
@@ -58,14 +58,14 @@ fresh_behind ((gate, Commands (c ∷ list)) ∷ items) forms = sym (has_name (gr
 
 -- ---- what was read is backed
 
-module _ {D : Type 0} (sense : Sense D) (criteria : Criteria) where
+module _ {D : Type 0} (view : DiskView D) (criteria : Criteria) where
   -- what a journal was opened with
   abbrev pub IsRead : Journal D → List (ℕ × Commit) → Type 0
   IsRead journal items =
-      IsTrue sense.tells → IsTrue (sense.honest (journal_disk journal)) → (commits : List Commit) × IsSettled (sense.content (journal_disk journal)) (journal_outline journal) criteria.digest commits × (items ≡ gated commits)
+      IsTrue view.tells → IsTrue (view.honest (journal_disk journal)) → (commits : List Commit) × IsSettled (view.content (journal_disk journal)) (journal_outline journal) criteria.digest commits × (items ≡ gated commits)
 
   pub backed_opened : (held : Held) (journal : Journal D) (items : List (ℕ × Commit)) → AreOf (journal_outline journal) items → journal_failed journal ≡ false → IsLedTo criteria items held → IsRead journal items →
-      IsBacked sense criteria.digest held None journal
+      IsBacked view criteria.digest held None journal
   backed_opened held journal items are works led read = record {
     commands = let counted = counted_behind no_front (map (λ item. item.1) items) in let same = ap (λ f. length f.commands) front in omega (arith, are.commands, counted, same);
     fresh = are.fresh ∙ fresh_behind items are.forms ∙ ap (λ f. is_none f.graph_id) front;
@@ -132,18 +132,18 @@ opens_alike once criteria reads image items was now opening is =
 
 -- ---- an opening, as contracts say it
 
-module _ {D : Type 0} (sense : Sense D) (faults : D → ℕ) (last_step : D → Option DiskStep) (policy : List PlacedItem) (digest author : List ℕ) (good : List ℕ → List ℕ → List ℕ → Bool) (held : Held)
+module _ {D : Type 0} (view : DiskView D) (faults : D → ℕ) (last_step : D → Option DiskStep) (policy : List PlacedItem) (digest author : List ℕ) (good : List ℕ → List ℕ → List ℕ → Bool) (held : Held)
     (journal : Journal D) where
   abbrev opened_parts : Parts D
   opened_parts = record { held = held; down = None; journal = journal }
 
-  pub opened_trusted : SurvivesSettled → OpensSound → IsSound (record { policy = policy; digest = digest; good = good }) held → IsBacked sense digest held None journal → IsTrue sense.tells →
-      IsTrue (sense.honest (journal_disk journal)) → IsTrusted good sense (kept_of policy digest author opened_parts) × Survives good sense (kept_of policy digest author opened_parts)
-  opened_trusted survives opens sound backed told honest = (trusted, survives_now sense faults last_step policy digest author survives opens good opened_parts backed trusted)
+  pub opened_trusted : SurvivesSettled → OpensSound → IsSound (record { policy = policy; digest = digest; good = good }) held → IsBacked view digest held None journal → IsTrue view.tells →
+      IsTrue (view.honest (journal_disk journal)) → IsTrusted good view (kept_of policy digest author opened_parts) × Survives good view (kept_of policy digest author opened_parts)
+  opened_trusted survives opens sound backed told honest = (trusted, survives_now view faults last_step policy digest author survives opens good opened_parts backed trusted)
     where
       fronts : AreSoundFronts good (kept_of policy digest author opened_parts)
       fronts front (inl same) = subst (λ (f : Front). AreSound (record { policy = policy; digest = digest; good = good }) f.graph_id f.commands) (sym same) sound.commands
       fronts front (inr (commit, loose, same)) = absurd cc
 
-      trusted : IsTrusted good sense (kept_of policy digest author opened_parts)
+      trusted : IsTrusted good view (kept_of policy digest author opened_parts)
       trusted = record { tells = told; honest = honest; sound = fronts }

@@ -1,5 +1,6 @@
 -- What a crash may leave of a replica's disk: at each moment its image opens to what the replica was before or is after.
 use Rattle.std.specs.Prelude.{◌≡◌, ◌⊎◌, ℕ, ◌≤◌, Bool, IsTrue, List, Option, Some, Result, Err}
+use Rattle.outside.specs.Disk.{Content, DiskView}
 use Rattle.braid_run.specs.Soundness.{AreSound}
 use Rattle.journal.specs.Images.{IsBegun}
 use Rattle.journal.specs.Journal.{WasOrReadsAlike}
@@ -8,18 +9,11 @@ use Rattle.journal.specs.declared.fault.OpenFault.{OpenFault}
 use Rattle.journal.specs.declared.fault.OpenFault.TheVariants as fault
 use Rattle.outside.specs.Causes.{Rose}
 use Rattle.outside.specs.Crashes.{LeavesOnly, MayLeave}
-use Rattle.outside.specs.Disk.{Content}
 use Rattle.outside.specs.declared.faults.DiskStep.{DiskStep}
 use Rattle.replica.specs.Fronts.{Front, OpensAs, Opens, behind_commit, front_of}
 use Rattle.replica.specs.Kept.{Kept, criteria_of, loose_of}
 use Rattle.replica.specs.declared.refusal.Refusal.{Refusal}
 use Rattle.replica.specs.declared.refusal.Refusal.TheVariants as refusal
-
--- What a type of disks tells, and whether a disk keeps the rules of writes and syncs.
-pub record Sense (D : Type 0) : Type 0 where
-  pub tells : Bool
-  pub content : D → Content
-  pub honest : D → Bool
 
 -- ---- causes
 
@@ -45,11 +39,11 @@ module _ {D : Type 0} where
     abbrev pub AreSoundFronts : Kept D → Type 0
     AreSoundFronts kept = (front : Front) → MayOpenTo kept front → AreSound (criteria_of good kept) front.graph_id front.commands
 
-    module _ (sense : Sense D) where
+    module _ (view : DiskView D) where
       -- The disk tells its content and is honest, and what it may open to is sound.
       pub record IsTrusted (kept : Kept D) : Type 0 where
-        pub tells : IsTrue sense.tells
-        pub honest : IsTrue (sense.honest kept.disk)
+        pub tells : IsTrue view.tells
+        pub honest : IsTrue (view.honest kept.disk)
         pub sound : AreSoundFronts kept
 
       -- An image opens to what the replica's disk may open to.
@@ -58,13 +52,13 @@ module _ {D : Type 0} where
 
       -- What a crash now may leave.
       abbrev pub Survives : Kept D → Type 0
-      Survives kept = (image : List ℕ) → MayLeave (sense.content kept.disk) image → OpensToOf kept image
+      Survives kept = (image : List ℕ) → MayLeave (view.content kept.disk) image → OpensToOf kept image
 
       -- A call of a replica whose disk was trusted: it stays so; a crash at any moment since the call began leaves an image that opens to what the disk might
       -- open to before the call or may open to after it; and one after the call leaves the latter.
       pub record Withstands (old new : Kept D) : Type 0 where
         pub trusted : IsTrusted new
-        pub moments : LeavesOnly (sense.content old.disk) (sense.content new.disk) (λ image. OpensToOf old image ⊎ OpensToOf new image)
+        pub moments : LeavesOnly (view.content old.disk) (view.content new.disk) (λ image. OpensToOf old image ⊎ OpensToOf new image)
         pub survives : Survives new
 
 -- ---- an opening

@@ -63,10 +63,10 @@ fn commit_action<G: Graph, F: FactBase, D: Disk>(
     requires ready { IsReady state.old (record { commands = prepared.commands; merges = prepared.merges; entries = prepared.entries.all; rows = F.rows prepared.facts }) }
     requires nothing { prepared.commands ≡ []
         → state.old.held ≡ applied state.old.held (record { commands = prepared.commands; merges = prepared.merges; entries = prepared.entries.all; rows = F.rows prepared.facts }) }
-    requires backed { (digest : List ℕ) × IsBacked (record { tells = D.tells; content = D.content; honest = D.honest }) digest state.old.held None journal.old }
+    requires backed { (digest : List ℕ) × IsBacked D.seen digest state.old.held None journal.old }
     ensures counts { IfOk result (λ it. it ≡ counts) }
-    ensures commits { (digest : List ℕ) → IsBacked (record { tells = D.tells; content = D.content; honest = D.honest }) digest state.old.held None journal.old
-        → Commits (record { tells = D.tells; content = D.content; honest = D.honest }) D.faults D.last_step digest
+    ensures commits { (digest : List ℕ) → IsBacked D.seen digest state.old.held None journal.old
+        → Commits D.seen D.faults D.last_step digest
         (applied state.old.held (record { commands = prepared.commands; merges = prepared.merges; entries = prepared.entries.all; rows = F.rows prepared.facts }))
         (record { held = state.old.held; down = down.old; journal = journal.old }) result (record { held = state.new.held; down = down.new; journal = journal.new }) }
 {
@@ -114,14 +114,14 @@ pub fn act_on<R: Runner, G: Graph, F: FactBase, D: Disk, E: Envelope, L: Ledger>
 ) -> Result<Published, Refusal>
     requires up { down.old ≡ None }
     requires replica { IsReplica (R.rules runner.now) digest.now state.old.held }
-    requires backed { IsBacked (record { tells = D.tells; content = D.content; honest = D.honest }) digest.now state.old.held None journal.old }
+    requires backed { IsBacked D.seen digest.now state.old.held None journal.old }
     requires first { first ≡ true → state.old.held.graph_id ≡ None }
-    ensures does { Does (record { tells = D.tells; content = D.content; honest = D.honest }) D.faults D.last_step (record { policy = R.rules runner.now; digest = digest.now; good = E.good })
+    ensures does { Does D.seen D.faults D.last_step (record { policy = R.rules runner.now; digest = digest.now; good = E.seen.good })
         (λ counts held. IsDone
-        (record { policy = R.rules runner.now; digest = digest.now; good = E.good; told = E.tag_of; author = author.now; held = state.old.held.commands })
+        (record { policy = R.rules runner.now; digest = digest.now; good = E.seen.good; told = E.seen.told; author = author.now; held = state.old.held.commands })
         state.old.held (record { action = action.now; arguments = args.now; first = first }) steps.old steps.new counts held)
         (λ why. IsFault
-        (record { policy = R.rules runner.now; digest = digest.now; good = E.good; told = E.tag_of; author = author.now; held = state.old.held.commands })
+        (record { policy = R.rules runner.now; digest = digest.now; good = E.seen.good; told = E.seen.told; author = author.now; held = state.old.held.commands })
         state.old.held.rows (record { action = action.now; arguments = args.now; first = first }) steps.old steps.new why)
         (record { held = state.old.held; down = down.old; journal = journal.old }) result (record { held = state.new.held; down = down.new; journal = journal.new }) }
     ensures ticks { IfOk result (λ counts. steps.new ≡ steps.old + counts.commands) }

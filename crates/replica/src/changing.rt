@@ -39,7 +39,7 @@ fn prepare_for<R: Runner, G: Graph, F: FactBase, E: Envelope, L: Ledger>(
 ) -> Result<Ready<F>, Refusal>
     requires replica { IsReplica (R.rules runner.now) digest.now state.now.held }
     ensures { IsReply
-        (λ ready. IsReadyFor (record { policy = R.rules runner.now; digest = digest.now; good = E.good }) state.now.held bytes.now ready.taken
+        (λ ready. IsReadyFor (record { policy = R.rules runner.now; digest = digest.now; good = E.seen.good }) state.now.held bytes.now ready.taken
         (option_map (λ change. record { commands = change.commands; rows = F.rows change.ran.facts; entries = change.ran.entries.all }) ready.change))
         (λ why. IsResponseRead bytes.now state.now.held.graph_id (Err why)) result }
 {
@@ -61,12 +61,12 @@ fn write_change<G: Graph, F: FactBase, D: Disk, T: Drop>(
     requires standing { IsStanding state.old.held.graph_id state.old.held.commands }
     requires some { 0 < length change.commands }
     requires behind { IsStanding state.old.held.graph_id (state.old.held.commands ++ change.commands) }
-    requires backed { (digest : List ℕ) × IsBacked (record { tells = D.tells; content = D.content; honest = D.honest }) digest state.old.held None journal.old }
+    requires backed { (digest : List ℕ) × IsBacked D.seen digest state.old.held None journal.old }
     requires room { length change.commands ≤ state.old.room }
     requires entry_room { length change.ran.entries.all ≤ state.old.entry_room }
     ensures reply { IfOk result (λ it. it ≡ reply) }
-    ensures commits { (digest : List ℕ) → IsBacked (record { tells = D.tells; content = D.content; honest = D.honest }) digest state.old.held None journal.old
-        → Commits (record { tells = D.tells; content = D.content; honest = D.honest }) D.faults D.last_step digest
+    ensures commits { (digest : List ℕ) → IsBacked D.seen digest state.old.held None journal.old
+        → Commits D.seen D.faults D.last_step digest
         (extended state.old.held change.commands 0 (F.rows change.ran.facts) change.ran.entries.all)
         (record { held = state.old.held; down = down.old; journal = journal.old }) result (record { held = state.new.held; down = down.new; journal = journal.new }) }
 {
@@ -94,10 +94,10 @@ fn commit_some<G: Graph, F: FactBase, D: Disk, T: Drop>(
     requires standing { IsStanding state.old.held.graph_id state.old.held.commands }
     requires some { 0 < length change.commands }
     requires behind { IsStanding state.old.held.graph_id (state.old.held.commands ++ change.commands) }
-    requires backed { (digest : List ℕ) × IsBacked (record { tells = D.tells; content = D.content; honest = D.honest }) digest state.old.held None journal.old }
+    requires backed { (digest : List ℕ) × IsBacked D.seen digest state.old.held None journal.old }
     ensures reply { IfOk result (λ it. it ≡ reply) }
-    ensures commits { (digest : List ℕ) → IsBacked (record { tells = D.tells; content = D.content; honest = D.honest }) digest state.old.held None journal.old
-        → Commits (record { tells = D.tells; content = D.content; honest = D.honest }) D.faults D.last_step digest
+    ensures commits { (digest : List ℕ) → IsBacked D.seen digest state.old.held None journal.old
+        → Commits D.seen D.faults D.last_step digest
         (extended state.old.held change.commands 0 (F.rows change.ran.facts) change.ran.entries.all)
         (record { held = state.old.held; down = down.old; journal = journal.old }) result (record { held = state.new.held; down = down.new; journal = journal.new }) }
 {
@@ -121,10 +121,10 @@ fn commit_change<G: Graph, F: FactBase, D: Disk, T: Drop>(
     requires standing { IsStanding state.old.held.graph_id state.old.held.commands }
     requires some { IfSome change (λ change. 0 < length change.commands) }
     requires behind { IfSome change (λ change. IsStanding state.old.held.graph_id (state.old.held.commands ++ change.commands)) }
-    requires backed { (digest : List ℕ) × IsBacked (record { tells = D.tells; content = D.content; honest = D.honest }) digest state.old.held None journal.old }
+    requires backed { (digest : List ℕ) × IsBacked D.seen digest state.old.held None journal.old }
     ensures reply { IfOk result (λ it. it ≡ reply) }
-    ensures commits { (digest : List ℕ) → IsBacked (record { tells = D.tells; content = D.content; honest = D.honest }) digest state.old.held None journal.old
-        → Commits (record { tells = D.tells; content = D.content; honest = D.honest }) D.faults D.last_step digest
+    ensures commits { (digest : List ℕ) → IsBacked D.seen digest state.old.held None journal.old
+        → Commits D.seen D.faults D.last_step digest
         (changed state.old.held (option_map (λ change. record { commands = change.commands; rows = F.rows change.ran.facts; entries = change.ran.entries.all }) change))
         (record { held = state.old.held; down = down.old; journal = journal.old }) result (record { held = state.new.held; down = down.new; journal = journal.new }) }
 {
@@ -149,10 +149,10 @@ pub fn take_on<R: Runner, G: Graph, F: FactBase, D: Disk, E: Envelope, L: Ledger
 ) -> Result<Taken, Refusal>
     requires up { down.old ≡ None }
     requires replica { IsReplica (R.rules runner.now) digest.now state.old.held }
-    requires backed { IsBacked (record { tells = D.tells; content = D.content; honest = D.honest }) digest.now state.old.held None journal.old }
-    ensures { Does (record { tells = D.tells; content = D.content; honest = D.honest }) D.faults D.last_step (record { policy = R.rules runner.now; digest = digest.now; good = E.good })
+    requires backed { IsBacked D.seen digest.now state.old.held None journal.old }
+    ensures { Does D.seen D.faults D.last_step (record { policy = R.rules runner.now; digest = digest.now; good = E.seen.good })
         (λ taken held. (response : AResponse) × IsResponseRead bytes.now state.old.held.graph_id (Ok response)
-        × Takes (record { policy = R.rules runner.now; digest = digest.now; good = E.good }) state.old.held response taken held)
+        × Takes (record { policy = R.rules runner.now; digest = digest.now; good = E.seen.good }) state.old.held response taken held)
         (λ why. IsResponseRead bytes.now state.old.held.graph_id (Err why))
         (record { held = state.old.held; down = down.old; journal = journal.old }) result (record { held = state.new.held; down = down.new; journal = journal.new }) }
 {
@@ -176,10 +176,10 @@ pub fn take_twice_on<R: Runner, G: Graph, F: FactBase, D: Disk, E: Envelope, L: 
 ) -> Result<(Taken, Taken), Refusal>
     requires up { down.old ≡ None }
     requires replica { IsReplica (R.rules runner.now) digest.now state.old.held }
-    requires backed { IsBacked (record { tells = D.tells; content = D.content; honest = D.honest }) digest.now state.old.held None journal.old }
-    ensures { Does (record { tells = D.tells; content = D.content; honest = D.honest }) D.faults D.last_step (record { policy = R.rules runner.now; digest = digest.now; good = E.good })
+    requires backed { IsBacked D.seen digest.now state.old.held None journal.old }
+    ensures { Does D.seen D.faults D.last_step (record { policy = R.rules runner.now; digest = digest.now; good = E.seen.good })
         (λ two held. (two.0 ≡ two.1) × ((response : AResponse) × IsResponseRead bytes.now state.old.held.graph_id (Ok response)
-        × Takes (record { policy = R.rules runner.now; digest = digest.now; good = E.good }) state.old.held response two.0 held))
+        × Takes (record { policy = R.rules runner.now; digest = digest.now; good = E.seen.good }) state.old.held response two.0 held))
         (λ why. IsResponseRead bytes.now state.old.held.graph_id (Err why))
         (record { held = state.old.held; down = down.old; journal = journal.old }) result (record { held = state.new.held; down = down.new; journal = journal.new }) }
 {

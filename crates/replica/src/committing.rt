@@ -40,10 +40,10 @@ fn write_ready<D: Disk>(
 ) -> Result<Commit, Refusal>
     requires ready { IsReadyFor ready (journal_outline journal.old) commit }
     requires works { journal_failed journal.old ≡ false }
-    requires settled { IsTrue D.tells → IsTrue (D.honest (journal_disk journal.old)) → (digest : List ℕ) × (commits : List ACommit) ×
-        IsSettled (D.content (journal_disk journal.old)) (journal_outline journal.old) digest commits }
+    requires settled { IsTrue D.seen.tells → IsTrue (D.seen.honest (journal_disk journal.old)) → (digest : List ℕ) × (commits : List ACommit) ×
+        IsSettled (D.seen.content (journal_disk journal.old)) (journal_outline journal.old) digest commits }
     ensures back { IfOk result (λ it. it ≡ commit) }
-    ensures writes { Writes (record { tells = D.tells; content = D.content; honest = D.honest }) D.faults D.last_step commit down.old journal.old result down.new journal.new }
+    ensures writes { Writes D.seen D.faults D.last_step commit down.old journal.old result down.new journal.new }
 {
     match journal.commit(ready) {
         Ok(()) => Ok(commit),
@@ -66,10 +66,10 @@ fn write<D: Disk>(
 ) -> Result<Commit, Refusal>
     requires can { CanAdd (journal_outline journal.old) commit }
     requires works { journal_failed journal.old ≡ false }
-    requires settled { IsTrue D.tells → IsTrue (D.honest (journal_disk journal.old)) → (digest : List ℕ) × (commits : List ACommit) ×
-        IsSettled (D.content (journal_disk journal.old)) (journal_outline journal.old) digest commits }
+    requires settled { IsTrue D.seen.tells → IsTrue (D.seen.honest (journal_disk journal.old)) → (digest : List ℕ) × (commits : List ACommit) ×
+        IsSettled (D.seen.content (journal_disk journal.old)) (journal_outline journal.old) digest commits }
     ensures back { IfOk result (λ it. it ≡ commit) }
-    ensures writes { Writes (record { tells = D.tells; content = D.content; honest = D.honest }) D.faults D.last_step commit down.old journal.old result down.new journal.new }
+    ensures writes { Writes D.seen D.faults D.last_step commit down.old journal.old result down.new journal.new }
 {
     settled_journals_survive();
     match journal.ready(alloc, &commit) {
@@ -87,10 +87,10 @@ pub fn write_commands<D: Disk>(
 ) -> Result<Commands, Refusal>
     requires can { AreAddable (journal_outline journal.old) commands }
     requires works { journal_failed journal.old ≡ false }
-    requires settled { IsTrue D.tells → IsTrue (D.honest (journal_disk journal.old)) → (digest : List ℕ) × (commits : List ACommit) ×
-        IsSettled (D.content (journal_disk journal.old)) (journal_outline journal.old) digest commits }
+    requires settled { IsTrue D.seen.tells → IsTrue (D.seen.honest (journal_disk journal.old)) → (digest : List ℕ) × (commits : List ACommit) ×
+        IsSettled (D.seen.content (journal_disk journal.old)) (journal_outline journal.old) digest commits }
     ensures back { IfOk result (λ it. it ≡ commands) }
-    ensures writes { Writes (record { tells = D.tells; content = D.content; honest = D.honest }) D.faults D.last_step (a_commit.Commands commands) down.old journal.old result down.new journal.new }
+    ensures writes { Writes D.seen D.faults D.last_step (a_commit.Commands commands) down.old journal.old result down.new journal.new }
 {
     match write(alloc, journal, down, Commit::Commands(commands)) {
         Ok(Commit::Commands(commands)) => Ok(commands),
@@ -109,9 +109,9 @@ pub fn join_on<G: Graph, F: FactBase, D: Disk>(
 ) -> Result<(), Refusal>
     requires up { down.old ≡ None }
     requires unnamed { state.old.held.graph_id ≡ None }
-    requires backed { (digest : List ℕ) × IsBacked (record { tells = D.tells; content = D.content; honest = D.honest }) digest state.old.held None journal.old }
-    ensures gave { (criteria : Criteria) → IsReplica criteria.policy criteria.digest state.old.held → IsBacked (record { tells = D.tells; content = D.content; honest = D.honest }) criteria.digest state.old.held None journal.old
-        → Gave (record { tells = D.tells; content = D.content; honest = D.honest }) D.faults D.last_step criteria (λ reply held. (state.old.held.graph_id ≡ None) × (held ≡ record state.old.held { graph_id = Some graph.now }))
+    requires backed { (digest : List ℕ) × IsBacked D.seen digest state.old.held None journal.old }
+    ensures gave { (criteria : Criteria) → IsReplica criteria.policy criteria.digest state.old.held → IsBacked D.seen criteria.digest state.old.held None journal.old
+        → Gave D.seen D.faults D.last_step criteria (λ reply held. (state.old.held.graph_id ≡ None) × (held ≡ record state.old.held { graph_id = Some graph.now }))
         (record { held = state.old.held; down = down.old; journal = journal.old }) result (record { held = state.new.held; down = down.new; journal = journal.new }) }
 {
     settled_journals_survive();

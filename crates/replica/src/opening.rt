@@ -50,7 +50,7 @@ fn admit_one<R: Runner, G: Graph, F: FactBase, E: Envelope, L: Ledger>(
     requires formed { IsFormed command.now }
     requires standing { IsStanding graph_id.now (G.commands over.old.base.now ++ over.old.added.items) }
     ensures base { OnOk result (G.commands over.new.base.now ≡ G.commands over.old.base.now) }
-    ensures adds { IfOk result (AddsOrNot (record { policy = R.rules runner.now; digest = digest.now; good = E.good }) graph_id.now
+    ensures adds { IfOk result (AddsOrNot (record { policy = R.rules runner.now; digest = digest.now; good = E.seen.good }) graph_id.now
         (G.commands over.old.base.now ++ over.old.added.items) (command.now ∷ []) (G.commands over.new.base.now ++ over.new.added.items)) }
 {
     added_commands_are_sound();
@@ -80,7 +80,7 @@ fn admit_each<R: Runner, G: Graph, F: FactBase, E: Envelope, L: Ledger>(
     requires formed { All IsFormed commands.now }
     requires standing { IsStanding graph_id.now (G.commands over.old.base.now ++ over.old.added.items) }
     ensures base { OnOk result (G.commands over.new.base.now ≡ G.commands over.old.base.now) }
-    ensures adds { IfOk result (AddsOrNot (record { policy = R.rules runner.now; digest = digest.now; good = E.good }) graph_id.now
+    ensures adds { IfOk result (AddsOrNot (record { policy = R.rules runner.now; digest = digest.now; good = E.seen.good }) graph_id.now
         (G.commands over.old.base.now ++ over.old.added.items) commands.now (G.commands over.new.base.now ++ over.new.added.items)) }
 {
     for command in commands {
@@ -118,7 +118,7 @@ fn admit_commit<R: Runner, G: Graph, F: FactBase, E: Envelope, L: Ledger>(
     requires form { IsCommitForm commit.now }
     requires standing { IsStanding graph_id.old (G.commands over.old.base.now ++ over.old.added.items) }
     ensures base { OnOk result (G.commands over.new.base.now ≡ G.commands over.old.base.now) }
-    ensures goes { IfOk result (GoesOrNot (record { policy = R.rules runner.now; digest = digest.now; good = E.good })
+    ensures goes { IfOk result (GoesOrNot (record { policy = R.rules runner.now; digest = digest.now; good = E.seen.good })
         (record { graph_id = graph_id.old; commands = G.commands over.old.base.now ++ over.old.added.items }) commit.now
         (record { graph_id = graph_id.new; commands = G.commands over.new.base.now ++ over.new.added.items })) }
 {
@@ -160,11 +160,11 @@ fn admit_commits<R: Runner, G: Graph, F: FactBase, E: Envelope, L: Ledger>(
     requires forms { AllByRecursion (λ item. IsCommitForm item.1) commits.now }
     requires standing { IsStanding graph_id.old (G.commands over.old.base.now ++ over.old.added.items) }
     ensures base { OnOk result (G.commands over.new.base.now ≡ G.commands over.old.base.now) }
-    ensures opens { OnOk result (Admits (record { policy = R.rules runner.now; digest = digest.now; good = E.good })
+    ensures opens { OnOk result (Admits (record { policy = R.rules runner.now; digest = digest.now; good = E.seen.good })
         (record { graph_id = graph_id.old; commands = G.commands over.old.base.now ++ over.old.added.items }) commits.now
         (Opens (record { graph_id = graph_id.new; commands = G.commands over.new.base.now ++ over.new.added.items }))) }
     ensures standing { OnOk result (IsStanding graph_id.new (G.commands over.new.base.now ++ over.new.added.items)) }
-    ensures refused { IfErr result (IsRefusedBehind (record { policy = R.rules runner.now; digest = digest.now; good = E.good })
+    ensures refused { IfErr result (IsRefusedBehind (record { policy = R.rules runner.now; digest = digest.now; good = E.seen.good })
         (record { graph_id = graph_id.old; commands = G.commands over.old.base.now ++ over.old.added.items }) commits.now) }
 {
     for item in commits {
@@ -200,8 +200,8 @@ fn led_state<R: Runner, G: Graph, F: FactBase, E: Envelope, L: Ledger>(
     requires name { blank.name ≡ L.name }
     requires parts { blank.parts ≡ L.parts }
     requires some { 0 < L.parts }
-    ensures led { IfOk result (λ state. IsLedTo (record { policy = R.rules runner.now; digest = digest.now; good = E.good }) commits.now state.held) }
-    ensures refused { IfErr result (IsRefusedAt (record { policy = R.rules runner.now; digest = digest.now; good = E.good }) commits.now) }
+    ensures led { IfOk result (λ state. IsLedTo (record { policy = R.rules runner.now; digest = digest.now; good = E.seen.good }) commits.now state.held) }
+    ensures refused { IfErr result (IsRefusedAt (record { policy = R.rules runner.now; digest = digest.now; good = E.seen.good }) commits.now) }
 {
     takes_keep_soundness();
     let mut state = State::<G, F>::empty(alloc)?;
@@ -233,8 +233,8 @@ pub fn opened_state<R: Runner, G: Graph, F: FactBase, E: Envelope>(
     env: &E,
 ) -> Result<State<G, F>, OpenFault>
     requires forms { AllByRecursion (λ item. IsCommitForm item.1) commits.now }
-    ensures led { IfOk result (λ state. IsLedTo (record { policy = R.rules runner.now; digest = digest.now; good = E.good }) commits.now state.held) }
-    ensures refused { IfErr result (IsRefusedAt (record { policy = R.rules runner.now; digest = digest.now; good = E.good }) commits.now) }
+    ensures led { IfOk result (λ state. IsLedTo (record { policy = R.rules runner.now; digest = digest.now; good = E.seen.good }) commits.now state.held) }
+    ensures refused { IfErr result (IsRefusedAt (record { policy = R.rules runner.now; digest = digest.now; good = E.seen.good }) commits.now) }
 {
     led_state::<R, G, F, E, Brand>(alloc, runner, digest, commits, env, Blank::new(1))
 }

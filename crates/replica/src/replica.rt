@@ -69,7 +69,7 @@ impl<R: Runner, G: Graph, F: FactBase, D: Disk> Model for Replica<R, G, F, D> {
       outline = journal_outline r.journal;
     } };
 
-    ghost invariant = { λ r. IsReplica (R.rules r.runner) r.digest r.state.held × IsBacked (record { tells = D.tells; content = D.content; honest = D.honest }) r.digest r.state.held r.down r.journal };
+    ghost invariant = { λ r. IsReplica (R.rules r.runner) r.digest r.state.held × IsBacked D.seen r.digest r.state.held r.down r.journal };
 }
 
 impl<R: Runner, G: Graph, F: FactBase, D: Disk> Replica<R, G, F, D> {
@@ -85,13 +85,13 @@ impl<R: Runner, G: Graph, F: FactBase, D: Disk> Replica<R, G, F, D> {
         env: &E,
     ) -> Result<Replica<R, G, F, D>, (OpenFault, R, D)>
         ensures opened { IfOk result (λ replica. IsOpened (R.rules runner) digest.now (author_id name.now) replica) }
-        ensures sound { IfOk result (λ replica. AreSoundFronts E.good replica) }
-        ensures opens { IsTrue D.tells → AnswersOpening (record { policy = R.rules runner; digest = digest.now; good = E.good }) (D.content disk).reads (opened_front result) }
+        ensures sound { IfOk result (λ replica. AreSoundFronts E.seen.good replica) }
+        ensures opens { IsTrue D.seen.tells → AnswersOpening (record { policy = R.rules runner; digest = digest.now; good = E.seen.good }) (D.seen.content disk).reads (opened_front result) }
         ensures runner { IfErr result (λ refused. refused.1 ≡ runner) }
-        ensures crash { IsTrue D.tells → IsTrue (D.honest disk) → OpensWhole digest.now (D.content disk) (D.content (opened_disk result)) }
-        ensures trusted { IsTrue D.tells → IsTrue (D.honest disk) → IfOk result (λ replica. IsTrusted E.good (record { tells = D.tells; content = D.content; honest = D.honest }) replica
-            × Survives E.good (record { tells = D.tells; content = D.content; honest = D.honest }) replica) }
-        ensures honest { D.honest (opened_disk result) ≡ D.honest disk }
+        ensures crash { IsTrue D.seen.tells → IsTrue (D.seen.honest disk) → OpensWhole digest.now (D.seen.content disk) (D.seen.content (opened_disk result)) }
+        ensures trusted { IsTrue D.seen.tells → IsTrue (D.seen.honest disk) → IfOk result (λ replica. IsTrusted E.seen.good D.seen replica
+            × Survives E.seen.good D.seen replica) }
+        ensures honest { D.seen.honest (opened_disk result) ≡ D.seen.honest disk }
         ensures cause { OpensWithDisk D.faults D.last_step disk (opened_disk result) (opened_front result) }
     {
         journals_open();
@@ -117,8 +117,8 @@ impl<R: Runner, G: Graph, F: FactBase, D: Disk> Replica<R, G, F, D> {
     fn check_up(&self) -> Result<(), Refusal>
         ensures up { OnOk result (self.now.down ≡ None) }
         ensures down { IfErr result (λ why. SaysDown self.now why) }
-        ensures stays { (good : List ℕ → List ℕ → List ℕ → Bool) → IsTrusted good (record { tells = D.tells; content = D.content; honest = D.honest }) self.now
-            → Withstands good (record { tells = D.tells; content = D.content; honest = D.honest }) self.now self.now }
+        ensures stays { (good : List ℕ → List ℕ → List ℕ → Bool) → IsTrusted good D.seen self.now
+            → Withstands good D.seen self.now self.now }
     {
         journals_open();
         match &self.down {
@@ -131,9 +131,9 @@ impl<R: Runner, G: Graph, F: FactBase, D: Disk> Replica<R, G, F, D> {
     pub fn join(&mut self, alloc: Global, graph: &Id) -> Result<(), Refusal>
         ensures step { Joins self.old graph.now result self.new }
         ensures sound { (good : List ℕ → List ℕ → List ℕ → Bool) → AreSoundFronts good self.old → AreSoundFronts good self.new }
-        ensures crash { (good : List ℕ → List ℕ → List ℕ → Bool) → IsTrusted good (record { tells = D.tells; content = D.content; honest = D.honest }) self.old
-            → Withstands good (record { tells = D.tells; content = D.content; honest = D.honest }) self.old self.new }
-        ensures honest { D.honest self.new.disk ≡ D.honest self.old.disk }
+        ensures crash { (good : List ℕ → List ℕ → List ℕ → Bool) → IsTrusted good D.seen self.old
+            → Withstands good D.seen self.old self.new }
+        ensures honest { D.seen.honest self.new.disk ≡ D.seen.honest self.old.disk }
         ensures disk { FailsWithDisk D.faults D.last_step self.old.disk self.new.disk result }
     {
         journals_open();
@@ -162,15 +162,15 @@ impl<R: Runner, G: Graph, F: FactBase, D: Disk> Replica<R, G, F, D> {
         steps: &mut Steps<L>,
     ) -> Result<Published, Refusal>
         requires first { first ≡ true → self.old.held.graph_id ≡ None }
-        ensures step { ActsIn self.old E.good E.tag_of (record { action = action.now; arguments = args.now; first = first }) steps.old steps.new result self.new }
+        ensures step { ActsIn self.old E.seen.good E.seen.told (record { action = action.now; arguments = args.now; first = first }) steps.old steps.new result self.new }
         ensures ticks { IfOk result (λ counts. steps.new ≡ steps.old + counts.commands) }
         ensures later { E.faults env.old ≤ E.faults env.new }
         ensures cause { IfErr result (λ why. why ≡ refusal.Act act_fault.SealFault → Rose (E.faults env.old) (E.faults env.new)) }
         ensures seals { OnOk result (E.faults env.new ≡ E.faults env.old) }
-        ensures sound { AreSoundFronts E.good self.old → AreSoundFronts E.good self.new }
-        ensures crash { IsTrusted E.good (record { tells = D.tells; content = D.content; honest = D.honest }) self.old
-            → Withstands E.good (record { tells = D.tells; content = D.content; honest = D.honest }) self.old self.new }
-        ensures honest { D.honest self.new.disk ≡ D.honest self.old.disk }
+        ensures sound { AreSoundFronts E.seen.good self.old → AreSoundFronts E.seen.good self.new }
+        ensures crash { IsTrusted E.seen.good D.seen self.old
+            → Withstands E.seen.good D.seen self.old self.new }
+        ensures honest { D.seen.honest self.new.disk ≡ D.seen.honest self.old.disk }
         ensures disk { FailsWithDisk D.faults D.last_step self.old.disk self.new.disk result }
     {
         journals_open();
@@ -200,15 +200,15 @@ impl<R: Runner, G: Graph, F: FactBase, D: Disk> Replica<R, G, F, D> {
         env: &mut E,
         steps: &mut Steps<L>,
     ) -> Result<Published, Refusal>
-        ensures step { Begins self.old E.good E.tag_of (record { action = action.now; arguments = args.now; first = true }) steps.old steps.new result self.new }
+        ensures step { Begins self.old E.seen.good E.seen.told (record { action = action.now; arguments = args.now; first = true }) steps.old steps.new result self.new }
         ensures ticks { IfOk result (λ counts. steps.new ≡ steps.old + counts.commands) }
         ensures later { E.faults env.old ≤ E.faults env.new }
         ensures cause { IfErr result (λ why. why ≡ refusal.Act act_fault.SealFault → Rose (E.faults env.old) (E.faults env.new)) }
         ensures seals { OnOk result (E.faults env.new ≡ E.faults env.old) }
-        ensures sound { AreSoundFronts E.good self.old → AreSoundFronts E.good self.new }
-        ensures crash { IsTrusted E.good (record { tells = D.tells; content = D.content; honest = D.honest }) self.old
-            → Withstands E.good (record { tells = D.tells; content = D.content; honest = D.honest }) self.old self.new }
-        ensures honest { D.honest self.new.disk ≡ D.honest self.old.disk }
+        ensures sound { AreSoundFronts E.seen.good self.old → AreSoundFronts E.seen.good self.new }
+        ensures crash { IsTrusted E.seen.good D.seen self.old
+            → Withstands E.seen.good D.seen self.old self.new }
+        ensures honest { D.seen.honest self.new.disk ≡ D.seen.honest self.old.disk }
         ensures disk { FailsWithDisk D.faults D.last_step self.old.disk self.new.disk result }
     {
         self.check_up()?;
@@ -227,15 +227,15 @@ impl<R: Runner, G: Graph, F: FactBase, D: Disk> Replica<R, G, F, D> {
         env: &mut E,
         steps: &mut Steps<L>,
     ) -> Result<Published, Refusal>
-        ensures step { ActsIn self.old E.good E.tag_of (record { action = action.now; arguments = args.now; first = false }) steps.old steps.new result self.new }
+        ensures step { ActsIn self.old E.seen.good E.seen.told (record { action = action.now; arguments = args.now; first = false }) steps.old steps.new result self.new }
         ensures ticks { IfOk result (λ counts. steps.new ≡ steps.old + counts.commands) }
         ensures later { E.faults env.old ≤ E.faults env.new }
         ensures cause { IfErr result (λ why. why ≡ refusal.Act act_fault.SealFault → Rose (E.faults env.old) (E.faults env.new)) }
         ensures seals { OnOk result (E.faults env.new ≡ E.faults env.old) }
-        ensures sound { AreSoundFronts E.good self.old → AreSoundFronts E.good self.new }
-        ensures crash { IsTrusted E.good (record { tells = D.tells; content = D.content; honest = D.honest }) self.old
-            → Withstands E.good (record { tells = D.tells; content = D.content; honest = D.honest }) self.old self.new }
-        ensures honest { D.honest self.new.disk ≡ D.honest self.old.disk }
+        ensures sound { AreSoundFronts E.seen.good self.old → AreSoundFronts E.seen.good self.new }
+        ensures crash { IsTrusted E.seen.good D.seen self.old
+            → Withstands E.seen.good D.seen self.old self.new }
+        ensures honest { D.seen.honest self.new.disk ≡ D.seen.honest self.old.disk }
         ensures disk { FailsWithDisk D.faults D.last_step self.old.disk self.new.disk result }
     {
         self.run_action(alloc, action, args, false, env, steps)
@@ -284,11 +284,11 @@ impl<R: Runner, G: Graph, F: FactBase, D: Disk> Replica<R, G, F, D> {
         env: &E,
         steps: &mut Steps<L>,
     ) -> Result<Taken, Refusal>
-        ensures step { TakesIn self.old E.good response.now result self.new }
-        ensures sound { AreSoundFronts E.good self.old → AreSoundFronts E.good self.new }
-        ensures crash { IsTrusted E.good (record { tells = D.tells; content = D.content; honest = D.honest }) self.old
-            → Withstands E.good (record { tells = D.tells; content = D.content; honest = D.honest }) self.old self.new }
-        ensures honest { D.honest self.new.disk ≡ D.honest self.old.disk }
+        ensures step { TakesIn self.old E.seen.good response.now result self.new }
+        ensures sound { AreSoundFronts E.seen.good self.old → AreSoundFronts E.seen.good self.new }
+        ensures crash { IsTrusted E.seen.good D.seen self.old
+            → Withstands E.seen.good D.seen self.old self.new }
+        ensures honest { D.seen.honest self.new.disk ≡ D.seen.honest self.old.disk }
         ensures disk { FailsWithDisk D.faults D.last_step self.old.disk self.new.disk result }
     {
         journals_open();
@@ -314,11 +314,11 @@ impl<R: Runner, G: Graph, F: FactBase, D: Disk> Replica<R, G, F, D> {
         env: &E,
         steps: &mut Steps<L>,
     ) -> Result<(Taken, Taken), Refusal>
-        ensures step { TakesTwice self.old E.good response.now result self.new }
-        ensures sound { AreSoundFronts E.good self.old → AreSoundFronts E.good self.new }
-        ensures crash { IsTrusted E.good (record { tells = D.tells; content = D.content; honest = D.honest }) self.old
-            → Withstands E.good (record { tells = D.tells; content = D.content; honest = D.honest }) self.old self.new }
-        ensures honest { D.honest self.new.disk ≡ D.honest self.old.disk }
+        ensures step { TakesTwice self.old E.seen.good response.now result self.new }
+        ensures sound { AreSoundFronts E.seen.good self.old → AreSoundFronts E.seen.good self.new }
+        ensures crash { IsTrusted E.seen.good D.seen self.old
+            → Withstands E.seen.good D.seen self.old self.new }
+        ensures honest { D.seen.honest self.new.disk ≡ D.seen.honest self.old.disk }
         ensures disk { FailsWithDisk D.faults D.last_step self.old.disk self.new.disk result }
     {
         journals_open();
@@ -340,13 +340,13 @@ impl<R: Runner, G: Graph, F: FactBase, D: Disk> Replica<R, G, F, D> {
     /// stays, or has the commit at which the disk failed. A refusal leaves the replica as it was.
     pub fn restart<E: Envelope>(&mut self, alloc: Global, env: &E) -> Result<usize, Refusal>
         ensures step { Restarts self.old result self.new }
-        ensures opens { IsTrue D.tells → AnswersOpening (criteria_of E.good self.old) (D.content self.old.disk).reads (restart_opens result self.new) }
-        ensures stays { IsTrusted E.good (record { tells = D.tells; content = D.content; honest = D.honest }) self.old → StaysAtRestart self.old result self.new }
-        ensures begun { IsTrue D.tells → IsBegun (D.content self.old.disk).reads → (D.content self.new.disk).reads ≡ (D.content self.old.disk).reads }
-        ensures sound { AreSoundFronts E.good self.old → AreSoundFronts E.good self.new }
-        ensures crash { IsTrusted E.good (record { tells = D.tells; content = D.content; honest = D.honest }) self.old
-            → Withstands E.good (record { tells = D.tells; content = D.content; honest = D.honest }) self.old self.new }
-        ensures honest { D.honest self.new.disk ≡ D.honest self.old.disk }
+        ensures opens { IsTrue D.seen.tells → AnswersOpening (criteria_of E.seen.good self.old) (D.seen.content self.old.disk).reads (restart_opens result self.new) }
+        ensures stays { IsTrusted E.seen.good D.seen self.old → StaysAtRestart self.old result self.new }
+        ensures begun { IsTrue D.seen.tells → IsBegun (D.seen.content self.old.disk).reads → (D.seen.content self.new.disk).reads ≡ (D.seen.content self.old.disk).reads }
+        ensures sound { AreSoundFronts E.seen.good self.old → AreSoundFronts E.seen.good self.new }
+        ensures crash { IsTrusted E.seen.good D.seen self.old
+            → Withstands E.seen.good D.seen self.old self.new }
+        ensures honest { D.seen.honest self.new.disk ≡ D.seen.honest self.old.disk }
         ensures disk { FailsWithDisk D.faults D.last_step self.old.disk self.new.disk result }
     {
         journals_open();

@@ -57,9 +57,9 @@ pub fn restart_on<R: Runner, G: Graph, F: FactBase, D: Disk, E: Envelope>(
     state: &mut State<G, F>,
     env: &E,
 ) -> Result<usize, Refusal>
-    requires backed { IsBacked (record { tells = D.tells; content = D.content; honest = D.honest }) digest.now state.old.held down.old journal.old }
-    ensures begun { IsTrue D.tells → IsBegun (D.content (journal_disk journal.old)).reads → (D.content (journal_disk journal.new)).reads ≡ (D.content (journal_disk journal.old)).reads }
-    ensures reopens { Reopens (record { policy = R.rules runner.now; digest = digest.now; good = E.good }) (record { tells = D.tells; content = D.content; honest = D.honest }) D.faults D.last_step
+    requires backed { IsBacked D.seen digest.now state.old.held down.old journal.old }
+    ensures begun { IsTrue D.seen.tells → IsBegun (D.seen.content (journal_disk journal.old)).reads → (D.seen.content (journal_disk journal.new)).reads ≡ (D.seen.content (journal_disk journal.old)).reads }
+    ensures reopens { Reopens (record { policy = R.rules runner.now; digest = digest.now; good = E.seen.good }) D.seen D.faults D.last_step
         (record { held = state.old.held; down = down.old; journal = journal.old }) result (record { held = state.new.held; down = down.new; journal = journal.new }) }
 {
     journals_open();

@@ -91,7 +91,7 @@ fn admit_one<R: Runner, G: Graph, F: FactBase, E: Envelope, L: Ledger>(
     requires standing { IsStanding graph_id.now (G.commands over.old.base.now ++ over.old.added.items) }
     requires repeats { counts.old.repeats + 1 < 2 ^ 64 }
     ensures base { G.commands over.new.base.now ≡ G.commands over.old.base.now }
-    ensures counts_one { OnOk result (CountsOne (record { policy = R.rules runner.now; digest = digest.now; good = E.good }) graph_id.now (G.commands over.old.base.now) command.now
+    ensures counts_one { OnOk result (CountsOne (record { policy = R.rules runner.now; digest = digest.now; good = E.seen.good }) graph_id.now (G.commands over.old.base.now) command.now
         (record { added = over.old.added.items; repeats = counts.old.repeats; refused = counts.old.refused })
         (record { added = over.new.added.items; repeats = counts.new.repeats; refused = counts.new.refused })) }
     ensures standing { OnOk result (IsStanding graph_id.now (G.commands over.new.base.now ++ over.new.added.items)) }
@@ -120,7 +120,7 @@ pub fn admit_all<R: Runner, G: Graph, F: FactBase, E: Envelope, L: Ledger>(
     requires none { over.old.added.items ≡ [] }
     requires standing { IsStanding graph_id.now (G.commands over.old.base.now) }
     ensures base { OnOk result (G.commands over.new.base.now ≡ G.commands over.old.base.now) }
-    ensures take { IfOk result (λ counts. IsTake (record { policy = R.rules runner.now; digest = digest.now; good = E.good }) graph_id.now (G.commands over.old.base.now) commands.now
+    ensures take { IfOk result (λ counts. IsTake (record { policy = R.rules runner.now; digest = digest.now; good = E.seen.good }) graph_id.now (G.commands over.old.base.now) commands.now
         (record { added = over.new.added.items; repeats = counts.repeats; refused = counts.refused })) }
     ensures standing { OnOk result (IsStanding graph_id.now (G.commands over.new.base.now ++ over.new.added.items)) }
 {
@@ -225,7 +225,7 @@ pub fn prepare_take<R: Runner, G: Graph, F: FactBase, E: Envelope, L: Ledger>(
 ) -> Result<Ready<F>, NoMemory>
     requires formed { All IsFormed response.now.commands }
     requires replica { IsReplica (R.rules runner.now) digest.now state.now.held }
-    ensures { IfOk result (λ ready. IsReady (record { policy = R.rules runner.now; digest = digest.now; good = E.good }) state.now.held response.now ready.taken
+    ensures { IfOk result (λ ready. IsReady (record { policy = R.rules runner.now; digest = digest.now; good = E.seen.good }) state.now.held response.now ready.taken
         (option_map (λ change. record { commands = change.commands; rows = F.rows change.ran.facts; entries = change.ran.entries.all }) ready.change)) }
 {
     added_commands_are_sound();

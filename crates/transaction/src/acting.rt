@@ -61,7 +61,7 @@ fn run_body<R: Runner, G: Graph, F: FactBase, E: Envelope, L: Ledger>(
 ) -> Result<ActionEnd, NoMemory>
     requires declared { IsActionOf (R.rules runner.now) action arguments.now }
     requires typed { AreTyped (R.rules runner.now) (F.rows facts.old) }
-    ensures runs { IfOk result (λ end. ActionRun (IsPublish (basis_of (R.rules runner.now) digest.now E.good E.tag_of author.now (G.commands graph.now))) (R.rules runner.now) action arguments.now author.now draft.old (F.rows facts.old) end steps.old steps.new draft.new (F.rows facts.new)) }
+    ensures runs { IfOk result (λ end. ActionRun (IsPublish (basis_of (R.rules runner.now) digest.now E.seen.good E.seen.told author.now (G.commands graph.now))) (R.rules runner.now) action arguments.now author.now draft.old (F.rows facts.old) end steps.old steps.new draft.new (F.rows facts.new)) }
     ensures typed { OnOk result (AreTyped (R.rules runner.now) (F.rows facts.new)) }
     ensures cause { HasSealCause draft.old.refusal draft.new.refusal (E.faults env.old) (E.faults env.new) }
 {
@@ -134,7 +134,7 @@ pub fn act_on<R: Runner, G: Graph, F: FactBase, E: Envelope, L: Ledger>(
     requires declared { IsActionOf (R.rules runner.now) action arguments.now }
     requires typed { AreTyped (R.rules runner.now) (F.rows facts.now) }
     ensures acts { Answers (λ p. record { commands = p.commands; merges = p.merges; entries = p.entries.all; rows = F.rows p.facts })
-        (λ r. RunsBody (basis_of (R.rules runner.now) digest.now E.good E.tag_of author.now (G.commands graph.now)) (F.rows facts.now) (record { action = action; arguments = arguments.now }) r steps.old steps.new) result }
+        (λ r. RunsBody (basis_of (R.rules runner.now) digest.now E.seen.good E.seen.told author.now (G.commands graph.now)) (F.rows facts.now) (record { action = action; arguments = arguments.now }) r steps.old steps.new) result }
     ensures typed { IfOk result (λ p. AreTyped (R.rules runner.now) (F.rows p.facts)) }
     ensures formed { IfOk result (λ p. All IsFormed p.commands) }
     ensures later { E.faults env.old ≤ E.faults env.new }

@@ -41,7 +41,7 @@ impl<'a, R: Runner, G: Graph, E: Envelope, F: FactBase> Desk<F> for Counter<'a, 
     ghost keeps_on = { λ a b c x y. (y.0 ∙ x.0, y.1 ∙ x.1, cause_on a.draft.now.refusal b.draft.now.refusal c.draft.now.refusal (E.faults a.env.now) (E.faults b.env.now) (E.faults c.env.now) x.2 y.2) };
 
     ghost publishes = { λ old rows posting new.
-        IsPublish (basis_of (R.rules old.runner.now) old.digest E.good E.tag_of old.author (G.commands old.graph.now)) old.draft.now rows posting new.draft.now
+        IsPublish (basis_of (R.rules old.runner.now) old.digest E.seen.good E.seen.told old.author (G.commands old.graph.now)) old.draft.now rows posting new.draft.now
         × (new.runner.now ≡ old.runner.now) × (new.graph.now ≡ old.graph.now) × (new.digest ≡ old.digest) × (new.author ≡ old.author) };
 
     fn publish<L: Ledger>(

@@ -36,7 +36,7 @@ fn act<R: Runner, G: Graph, F: FactBase, E: Envelope, L: Ledger>(
 ) -> Result<Prepared<F>, ActFault>
     requires typed { AreTyped (R.rules runner.now) (F.rows facts.now) }
     ensures acts { Answers (λ p. record { commands = p.commands; merges = p.merges; entries = p.entries.all; rows = F.rows p.facts })
-        (λ r. Acts (basis_of (R.rules runner.now) digest.now E.good E.tag_of author.now (G.commands graph.now)) (F.rows facts.now) (record { action = action.now; arguments = args.now; first = first }) r steps.old steps.new) result }
+        (λ r. Acts (basis_of (R.rules runner.now) digest.now E.seen.good E.seen.told author.now (G.commands graph.now)) (F.rows facts.now) (record { action = action.now; arguments = args.now; first = first }) r steps.old steps.new) result }
     ensures typed { IfOk result (λ p. AreTyped (R.rules runner.now) (F.rows p.facts)) }
     ensures formed { IfOk result (λ p. All IsFormed p.commands) }
     ensures well_typed { IfOk result (λ p. IsWellTyped (R.rules runner.now)) }
@@ -80,11 +80,11 @@ pub fn prepare<R: Runner, G: Graph, F: FactBase, E: Envelope, L: Ledger>(
     requires typed { AreTyped (R.rules runner.now) state.old.held.rows }
     requires first { first ≡ true → state.old.held.graph_id ≡ None }
     ensures acts { Answers (λ p. record { commands = p.commands; merges = p.merges; entries = p.entries.all; rows = F.rows p.facts })
-        (λ r. Acts (basis_of (R.rules runner.now) digest.now E.good E.tag_of author.now state.old.held.commands) state.old.held.rows (record { action = action.now; arguments = args.now; first = first }) r steps.old steps.new) result }
+        (λ r. Acts (basis_of (R.rules runner.now) digest.now E.seen.good E.seen.told author.now state.old.held.commands) state.old.held.rows (record { action = action.now; arguments = args.now; first = first }) r steps.old steps.new) result }
     ensures held { state.new.held ≡ state.old.held }
     ensures room { (state.old.room ≤ state.new.room) × (state.old.entry_room ≤ state.new.entry_room) }
     ensures ready { IfOk result (λ p. IsReady state.new (record { commands = p.commands; merges = p.merges; entries = p.entries.all; rows = F.rows p.facts })) }
-    ensures published { IfOk result (λ p. IsPublishedOn (record { policy = R.rules runner.now; digest = digest.now; good = E.good }) state.old.held (record { commands = p.commands; merges = p.merges; entries = p.entries.all; rows = F.rows p.facts })) }
+    ensures published { IfOk result (λ p. IsPublishedOn (record { policy = R.rules runner.now; digest = digest.now; good = E.seen.good }) state.old.held (record { commands = p.commands; merges = p.merges; entries = p.entries.all; rows = F.rows p.facts })) }
     ensures typed { IfOk result (λ p. AreTyped (R.rules runner.now) (F.rows p.facts)) }
     ensures ticks { IfOk result (λ p. steps.new ≡ steps.old + length p.entries.all) }
     ensures later { E.faults env.old ≤ E.faults env.new }

@@ -51,7 +51,7 @@ fn seal<E: Envelope>(
 ) -> Result<Option<Command>, NoMemory>
     requires small { length payload ≤ 4096 }
     requires placed { is_misplaced (kind_seen kind) (has_head draft.now.heads) ≡ false }
-    ensures sealed { IfOk result (λ made. IsSealed E.good E.tag_of author.now (new_command digest.now author.now (parent_of draft.now.heads) (kind_seen kind) name.now payload) made (E.faults env.old) (E.faults env.new)) }
+    ensures sealed { IfOk result (λ made. IsSealed E.seen.good E.seen.told author.now (new_command digest.now author.now (parent_of draft.now.heads) (kind_seen kind) name.now payload) made (E.faults env.old) (E.faults env.new)) }
     ensures formed { IfOk result (λ made. IfSome made IsInForm) }
     ensures later { E.faults env.old ≤ E.faults env.new }
     ensures same { OnErr result (E.faults env.new ≡ E.faults env.old) }
@@ -160,7 +160,7 @@ fn seal_and_check<R: Runner, G: Graph, E: Envelope, F: FactBase, L: Ledger>(
     requires declared { declared_at (R.rules runner.now) number ≡ record { name = declared.now.name.now; kind = kind_seen declared.now.kind } }
     requires payload { payload ≡ spelling (value.Struct number fields) }
     requires typed { AreTyped (R.rules runner.now) (F.rows facts.old) }
-    ensures ends { IfOk result (λ posted. EndsSealed (basis_of (R.rules runner.now) digest.now E.good E.tag_of author.now (G.commands graph.now)) (Ok draft.old) (record { command = number; fields = fields }) draft.old (F.rows facts.old) posted (F.rows facts.new) steps.old steps.new draft.new) }
+    ensures ends { IfOk result (λ posted. EndsSealed (basis_of (R.rules runner.now) digest.now E.seen.good E.seen.told author.now (G.commands graph.now)) (Ok draft.old) (record { command = number; fields = fields }) draft.old (F.rows facts.old) posted (F.rows facts.new) steps.old steps.new draft.new) }
     ensures typed { OnOk result (AreTyped (R.rules runner.now) (F.rows facts.new)) }
     ensures cause { HasSealCause draft.old.refusal draft.new.refusal (E.faults env.old) (E.faults env.new) }
 {
@@ -207,7 +207,7 @@ pub fn publish_command<R: Runner, G: Graph, E: Envelope, F: FactBase, L: Ledger>
 ) -> Result<Posted, NoMemory>
     requires declared { IsCommandOf (R.rules runner.now) number fields }
     requires typed { AreTyped (R.rules runner.now) (F.rows facts.old) }
-    ensures publishes { IfOk result (λ posted. Publishes (IsPublish (basis_of (R.rules runner.now) digest.now E.good E.tag_of author.now (G.commands graph.now))) draft.old (F.rows facts.old) number fields posted steps.old steps.new draft.new (F.rows facts.new)) }
+    ensures publishes { IfOk result (λ posted. Publishes (IsPublish (basis_of (R.rules runner.now) digest.now E.seen.good E.seen.told author.now (G.commands graph.now))) draft.old (F.rows facts.old) number fields posted steps.old steps.new draft.new (F.rows facts.new)) }
     ensures stay { IfOk result (λ posted. Stay posted (F.rows facts.old) (F.rows facts.new)) }
     ensures typed { OnOk result (AreTyped (R.rules runner.now) (F.rows facts.new)) }
     ensures cause { HasSealCause draft.old.refusal draft.new.refusal (E.faults env.old) (E.faults env.new) }

@@ -18,7 +18,7 @@ pub fn sealed_init<E: Envelope>(
     payload: Bytes,
 ) -> Result<Option<Command>, NoMemory>
     requires { AreContent name payload }
-    ensures sealed { IfOk result (λ made. IsSealed E.good E.tag_of author.now (λ tag. command.Init None digest.now author.now name payload tag) made (E.faults env.old) (E.faults env.new)) }
+    ensures sealed { IfOk result (λ made. IsSealed E.seen.good E.seen.told author.now (λ tag. command.Init None digest.now author.now name payload tag) made (E.faults env.old) (E.faults env.new)) }
     ensures formed { IfOk result (λ made. IfSome made IsInForm) }
     ensures later { E.faults env.old ≤ E.faults env.new }
     ensures same { OnErr result (E.faults env.new ≡ E.faults env.old) }
@@ -48,7 +48,7 @@ pub fn sealed_basic<E: Envelope>(
     payload: Bytes,
 ) -> Result<Option<Command>, NoMemory>
     requires { AreContent name payload }
-    ensures sealed { IfOk result (λ made. IsSealed E.good E.tag_of author.now (λ tag. command.Basic None priority parent.now author.now name payload tag) made (E.faults env.old) (E.faults env.new)) }
+    ensures sealed { IfOk result (λ made. IsSealed E.seen.good E.seen.told author.now (λ tag. command.Basic None priority parent.now author.now name payload tag) made (E.faults env.old) (E.faults env.new)) }
     ensures formed { IfOk result (λ made. IfSome made IsInForm) }
     ensures later { E.faults env.old ≤ E.faults env.new }
     ensures same { OnErr result (E.faults env.new ≡ E.faults env.old) }
@@ -78,7 +78,7 @@ pub fn sealed_finalize<E: Envelope>(
     payload: Bytes,
 ) -> Result<Option<Command>, NoMemory>
     requires { AreContent name payload }
-    ensures sealed { IfOk result (λ made. IsSealed E.good E.tag_of author.now (λ tag. command.Finalize None parent.now author.now name payload tag) made (E.faults env.old) (E.faults env.new)) }
+    ensures sealed { IfOk result (λ made. IsSealed E.seen.good E.seen.told author.now (λ tag. command.Finalize None parent.now author.now name payload tag) made (E.faults env.old) (E.faults env.new)) }
     ensures formed { IfOk result (λ made. IfSome made IsInForm) }
     ensures later { E.faults env.old ≤ E.faults env.new }
     ensures same { OnErr result (E.faults env.new ≡ E.faults env.old) }

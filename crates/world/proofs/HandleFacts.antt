@@ -5,9 +5,9 @@ use Rattle.braid_run.specs.States.{Held}
 use Rattle.journal.specs.declared.commit.Commit.{Commit}
 use Rattle.journal.specs.declared.fault.OpenFault.{OpenFault}
 use Rattle.outside.specs.Crashes.{LeavesOnly, clock, moments}
-use Rattle.outside.specs.Disk.{Content}
+use Rattle.outside.specs.Disk.{Content, DiskView}
 use Rattle.outside.proofs.Crashes.{no_calls, told_before}
-use Rattle.replica.specs.Disks.{MayOpenTo, OpensToOf, Sense}
+use Rattle.replica.specs.Disks.{MayOpenTo, OpensToOf}
 use Rattle.replica.specs.Fronts.{Front, OpensAs, Opens, behind_commit, front_of}
 use Rattle.replica.specs.Kept.{Kept, criteria_of, loose_of}
 use Rattle.replica.specs.Steps.{IsStep}
@@ -114,7 +114,7 @@ module _ {D : Type 0} where
 
 -- ---- a call, as its disk sees it
 
-module _ {D : Type 0} (sense : Sense D) (good : List ℕ → List ℕ → List ℕ → Bool) where
+module _ {D : Type 0} (view : DiskView D) (good : List ℕ → List ℕ → List ℕ → Bool) where
   module _ (reached : List (Named D) → Type 0) where
     reaches_same : (old : List (Named D)) (name : Bytes) (before : Kept D) (f : Front) → kept_of old name ≡ Some before → reached old → f ≡ front_of before.held → Reaches good reached old name before f
     reaches_same old name before f is there same = record { kept = before; there = subst reached (sym (unchanged old name before is)) there; judged = refl; holds = sym same }
@@ -129,19 +129,19 @@ module _ {D : Type 0} (sense : Sense D) (good : List ℕ → List ℕ → List �
     pub fares_step : {T : Type 0} (gives : T → Held → Type 0) (refuses : Refusal → Type 0) (old : List (Named D)) (name : Bytes) (before after : Kept D) (reply : Result T Refusal)
         → kept_of old name ≡ Some before → before.down ≡ None → reached old
         → ((r : T) (held : Held) → gives r held → reached (with_kept old name (record before { held = held; down = None })))
-        → IsStep before gives refuses reply after → Treats sense good faults before after reply → Fares sense good faults reached old name before after
+        → IsStep before gives refuses reply after → Treats view good faults before after reply → Fares view good faults reached old name before after
     fares_step gives refuses old name before after reply is up there all step treats = record {
       later = treats.later;
       as_honest = treats.as_honest;
       crash = λ safe.
           let w = treats.crash safe.0 in (
             (w.trusted, w.survives),
-            leaves_more (sense.content before.disk) (sense.content after.disk) (λ image. OpensToOf good sense before image ⊎ OpensToOf good sense after image)
+            leaves_more (view.content before.disk) (view.content after.disk) (λ image. OpensToOf good view before image ⊎ OpensToOf good view after image)
                 (λ image. (f : Front) × Reaches good reached old name before f × OpensAs (criteria_of good before) image (Opens f)) (λ image opens. to image opens) w.moments,
           );
     }
       where
-        to : (image : List ℕ) → OpensToOf good sense before image ⊎ OpensToOf good sense after image → (f : Front) × Reaches good reached old name before f × OpensAs (criteria_of good before) image (Opens f)
+        to : (image : List ℕ) → OpensToOf good view before image ⊎ OpensToOf good view after image → (f : Front) × Reaches good reached old name before f × OpensAs (criteria_of good before) image (Opens f)
         to image (inl (f, may, opens)) = (f, reaches_same reached old name before f is there (open_front before f up may), opens)
         to image (inr (f, may, opens)) = (
           f,
@@ -151,7 +151,7 @@ module _ {D : Type 0} (sense : Sense D) (good : List ℕ → List ℕ → List �
 
     -- and on, with a call more
     pub fares_on : (first mid : List (Named D)) (name : Bytes) (before now after : Kept D) → mid ≡ with_kept first name now → criteria_of good now ≡ criteria_of good before
-        → Fares sense good faults reached first name before now → Fares sense good faults reached mid name now after → Fares sense good faults reached first name before after
+        → Fares view good faults reached first name before now → Fares view good faults reached mid name now after → Fares view good faults reached first name before after
     fares_on first mid name before now after set judged far more = record {
       later = omega (arith, far.later, more.later);
       as_honest = more.as_honest ∙ far.as_honest;
@@ -159,8 +159,8 @@ module _ {D : Type 0} (sense : Sense D) (good : List ℕ → List ℕ → List �
           let x = far.crash safe in
           let y = more.crash x.0 in (
             y.0,
-            joins (sense.content before.disk) (sense.content now.disk) (sense.content after.disk) (λ image. (f : Front) × Reaches good reached first name before f × OpensAs (criteria_of good before) image (Opens f)) x.1
-                (leaves_more (sense.content now.disk) (sense.content after.disk) (λ image. (f : Front) × Reaches good reached mid name now f × OpensAs (criteria_of good now) image (Opens f))
+            joins (view.content before.disk) (view.content now.disk) (view.content after.disk) (λ image. (f : Front) × Reaches good reached first name before f × OpensAs (criteria_of good before) image (Opens f)) x.1
+                (leaves_more (view.content now.disk) (view.content after.disk) (λ image. (f : Front) × Reaches good reached mid name now f × OpensAs (criteria_of good now) image (Opens f))
                 (λ image. (f : Front) × Reaches good reached first name before f × OpensAs (criteria_of good before) image (Opens f)) (λ image opens. back image opens) y.1),
           );
     }
@@ -179,13 +179,13 @@ module _ {D : Type 0} (sense : Sense D) (good : List ℕ → List ℕ → List �
         )
 
     -- no call
-    pub fares_still : (old : List (Named D)) (name : Bytes) (before : Kept D) → kept_of old name ≡ Some before → before.down ≡ None → reached old → Fares sense good faults reached old name before before
+    pub fares_still : (old : List (Named D)) (name : Bytes) (before : Kept D) → kept_of old name ≡ Some before → before.down ≡ None → reached old → Fares view good faults reached old name before before
     fares_still old name before is up there = record {
       later = omega arith;
       as_honest = refl;
       crash = λ safe. (
         safe,
-        no_calls (sense.content before.disk) (λ image. (f : Front) × Reaches good reached old name before f × OpensAs (criteria_of good before) image (Opens f))
+        no_calls (view.content before.disk) (λ image. (f : Front) × Reaches good reached old name before f × OpensAs (criteria_of good before) image (Opens f))
             (λ image may. let o = safe.1 image may in (o.0, reaches_same reached old name before o.0 is there (open_front before o.0 up o.1), o.2)),
       );
     }
@@ -194,8 +194,8 @@ module _ {D : Type 0} (sense : Sense D) (good : List ℕ → List ℕ → List �
         → AreUp old → reached old
         → ((before : Kept D) (failed : Type 0) (why : Refusal) → reply ≡ Err why → refuses before why → IsCausedBy sealed failed why)
         → ((before : Kept D) (r : T) (held : Held) → kept_of old name ≡ Some before → before.down ≡ None → gives before r held → reached (with_kept old name (record before { held = held; down = None })))
-        → Changes old name (λ before after. IsStep before (gives before) (refuses before) reply after × Treats sense good faults before after reply) new
-        → Weathers sense good faults sealed reached old name reply new
+        → Changes old name (λ before after. IsStep before (gives before) (refuses before) reply after × Treats view good faults before after reply) new
+        → Weathers view good faults sealed reached old name reply new
     weathers_step sealed gives refuses old name reply new up there caused all (before, after, is, (step, treats), set) =
         let own = up_of old name before up is in
         record {
@@ -251,36 +251,36 @@ fell_at {D = D} faults old name before after new is set falls = (
   (name, before, after, refl, is, ap (λ (l : List (Named D)). kept_of l name) set ∙ kept_then old name before after is, falls),
 )
 
-module _ {D : Type 0} (sense : Sense D) (good : List ℕ → List ℕ → List ℕ → Bool) (reached : List (Named D) → Type 0) where
+module _ {D : Type 0} (view : DiskView D) (good : List ℕ → List ℕ → List ℕ → Bool) (reached : List (Named D) → Type 0) where
   -- what a replica that isn't called leaves
-  still : (old : List (Named D)) (a : Bytes) (kept : Kept D) → kept_of old a ≡ Some kept → AreUp old → reached old → IsSafe sense good kept
-      → LeavesOnly (sense.content kept.disk) (sense.content kept.disk) (λ image. (replicas : List (Named D)) × reached replicas × OpensIn sense good replicas a image)
+  still : (old : List (Named D)) (a : Bytes) (kept : Kept D) → kept_of old a ≡ Some kept → AreUp old → reached old → IsSafe view good kept
+      → LeavesOnly (view.content kept.disk) (view.content kept.disk) (λ image. (replicas : List (Named D)) × reached replicas × OpensIn view good replicas a image)
   still old a kept is up there safe =
-      no_calls (sense.content kept.disk) (λ image. (replicas : List (Named D)) × reached replicas × OpensIn sense good replicas a image)
+      no_calls (view.content kept.disk) (λ image. (replicas : List (Named D)) × reached replicas × OpensIn view good replicas a image)
       (λ image may. let o = safe.1 image may in (old, there, (kept, is, subst (λ f. OpensAs (criteria_of good kept) image (Opens f)) (open_front kept o.0 (up_of old a kept up is) o.1) o.2)))
 
-  pub still_open : (old : List (Named D)) → AreUp old → reached old → AreSafe sense good old → OpenAtEachMoment sense good reached old old
+  pub still_open : (old : List (Named D)) → AreUp old → reached old → AreSafe view good old → OpenAtEachMoment view good reached old old
   still_open old up there safe = λ a before after was is.
-      subst (λ (k : Kept D). LeavesOnly (sense.content before.disk) (sense.content k.disk) (λ image. (replicas : List (Named D)) × reached replicas × OpensIn sense good replicas a image)) (same_Some before after (sym was ∙ is))
+      subst (λ (k : Kept D). LeavesOnly (view.content before.disk) (view.content k.disk) (λ image. (replicas : List (Named D)) × reached replicas × OpensIn view good replicas a image)) (same_Some before after (sym was ∙ is))
       (still old a before was up there (safe a before was))
 
   module _ (faults : D → ℕ) where
     module _ {T : Type 0} (sealed : Type 0) (old : List (Named D)) (name : Bytes) (reply : Result T Refusal) (new : List (Named D)) (up : AreUp old) (there : reached old)
-        (w : Weathers sense good faults sealed reached old name reply new) where
-      safe_then : AreSafe sense good old → AreSafe sense good new
+        (w : Weathers view good faults sealed reached old name reply new) where
+      safe_then : AreSafe view good old → AreSafe view good new
       safe_then safe = λ a kept is. by a kept is (looks old name w.before a w.is)
         where
           by : (a : Bytes) (kept : Kept D) → kept_of new a ≡ Some kept
-              → ((after : Kept D) → kept_of (with_kept old name after) a ≡ kept_of old a) ⊎ ((kept_of old a ≡ Some w.before) × ((after : Kept D) → kept_of (with_kept old name after) a ≡ Some after)) → IsSafe sense good kept
+              → ((after : Kept D) → kept_of (with_kept old name after) a ≡ kept_of old a) ⊎ ((kept_of old a ≡ Some w.before) × ((after : Kept D) → kept_of (with_kept old name after) a ≡ Some after)) → IsSafe view good kept
           by a kept is (inl same) = safe a kept (sym (same w.after) ∙ sym (ap (λ (l : List (Named D)). kept_of l a) w.set) ∙ is)
           by a kept is (inr (was, then)) =
-              subst (IsSafe sense good) (same_Some w.after kept (sym (then w.after) ∙ sym (ap (λ (l : List (Named D)). kept_of l a) w.set) ∙ is)) ((w.fares.crash (safe name w.before w.is)).0)
+              subst (IsSafe view good) (same_Some w.after kept (sym (then w.after) ∙ sym (ap (λ (l : List (Named D)). kept_of l a) w.set) ∙ is)) ((w.fares.crash (safe name w.before w.is)).0)
 
-      open_then : AreSafe sense good old → OpenAtEachMoment sense good reached old new
+      open_then : AreSafe view good old → OpenAtEachMoment view good reached old new
       open_then safe = λ a before after was is. by a before after was (sym (ap (λ (l : List (Named D)). kept_of l a) w.set) ∙ is) (looks old name w.before a w.is)
         where
           P : Bytes → List ℕ → Type 0
-          P = λ a image. (replicas : List (Named D)) × reached replicas × OpensIn sense good replicas a image
+          P = λ a image. (replicas : List (Named D)) × reached replicas × OpensIn view good replicas a image
 
           to : (a image : List ℕ) → ((after : Kept D) → kept_of (with_kept old name after) a ≡ Some after) → ((f : Front) × Reaches good reached old name w.before f × OpensAs (criteria_of good w.before) image (Opens f)) → P a image
           to a image then (f, reaches, opens) = (
@@ -295,13 +295,13 @@ module _ {D : Type 0} (sense : Sense D) (good : List ℕ → List ℕ → List �
 
           by : (a : Bytes) (before after : Kept D) → kept_of old a ≡ Some before → kept_of (with_kept old name w.after) a ≡ Some after
               → ((after : Kept D) → kept_of (with_kept old name after) a ≡ kept_of old a) ⊎ ((kept_of old a ≡ Some w.before) × ((after : Kept D) → kept_of (with_kept old name after) a ≡ Some after))
-              → LeavesOnly (sense.content before.disk) (sense.content after.disk) (P a)
+              → LeavesOnly (view.content before.disk) (view.content after.disk) (P a)
           by a before after was is (inl same) =
-              subst (λ (k : Kept D). LeavesOnly (sense.content before.disk) (sense.content k.disk) (P a)) (same_Some before after (sym was ∙ sym (same w.after) ∙ is)) (still old a before was up there (safe a before was))
+              subst (λ (k : Kept D). LeavesOnly (view.content before.disk) (view.content k.disk) (P a)) (same_Some before after (sym was ∙ sym (same w.after) ∙ is)) (still old a before was up there (safe a before was))
           by a before after was is (inr (own, then)) =
-              subst (λ (k : Kept D). LeavesOnly (sense.content k.disk) (sense.content after.disk) (P a)) (same_Some w.before before (sym own ∙ was))
-              (subst (λ (k : Kept D). LeavesOnly (sense.content w.before.disk) (sense.content k.disk) (P a)) (same_Some w.after after (sym (then w.after) ∙ is))
-              (leaves_more (sense.content w.before.disk) (sense.content w.after.disk) (λ image. (f : Front) × Reaches good reached old name w.before f × OpensAs (criteria_of good w.before) image (Opens f)) (P a)
+              subst (λ (k : Kept D). LeavesOnly (view.content k.disk) (view.content after.disk) (P a)) (same_Some w.before before (sym own ∙ was))
+              (subst (λ (k : Kept D). LeavesOnly (view.content w.before.disk) (view.content k.disk) (P a)) (same_Some w.after after (sym (then w.after) ∙ is))
+              (leaves_more (view.content w.before.disk) (view.content w.after.disk) (λ image. (f : Front) × Reaches good reached old name w.before f × OpensAs (criteria_of good w.before) image (Opens f)) (P a)
               (λ image opens. to a image then opens) ((w.fares.crash (safe name w.before w.is)).1)))
 
       up_then : (line : Option Bytes) (result : Result Bytes RunStop) → (IsDiskFault reply → line ≡ None) → WordsBy (refusal_of reply) line result → OnOk result (AreUp new)
@@ -324,9 +324,9 @@ module _ {D : Type 0} (sense : Sense D) (good : List ℕ → List ℕ → List �
           (stopped_for sealed (Falls faults w.before w.after) refused reply s w.cause words)
 
       pub handles : (refused : List ℕ → OpenFault → Type 0) (line : Option Bytes) (result : Result Bytes RunStop) → (IsDiskFault reply → line ≡ None) → WordsBy (refusal_of reply) line result
-          → Handles sense good faults sealed (Some name) refused reached old result new
+          → Handles view good faults sealed (Some name) refused reached old result new
       handles refused line result silent words = record {
-        later = subst (AreLater faults sense.honest old) (sym w.set) (later_at faults sense.honest old name w.before w.after w.is w.fares.later w.fares.as_honest);
+        later = subst (AreLater faults view.honest old) (sym w.set) (later_at faults view.honest old name w.before w.after w.is w.fares.later w.fares.as_honest);
         up = up_then line result silent words;
         cause = caused_then refused line result words;
         crash = λ safe. (safe_then safe, open_then safe);
@@ -334,9 +334,9 @@ module _ {D : Type 0} (sense : Sense D) (good : List ℕ → List ℕ → List �
 
     -- a line that changes nothing
     pub handles_still : {T : Type 0} (sealed : Type 0) (own : Option Bytes) (refused : List ℕ → OpenFault → Type 0) (old : List (Named D)) (result : Result T RunStop) → AreUp old → reached old → IfErr result (λ s. s ≡ stop.NoMemory)
-        → Handles sense good faults sealed own refused reached old result old
+        → Handles view good faults sealed own refused reached old result old
     handles_still {T = T} sealed own refused old result up there none = record {
-      later = later_same faults sense.honest old;
+      later = later_same faults view.honest old;
       up = all_up result;
       cause = none_caused result none;
       crash = λ safe. (safe, still_open old up there safe);
@@ -352,7 +352,7 @@ module _ {D : Type 0} (sense : Sense D) (good : List ℕ → List ℕ → List �
 
 -- ---- the same, said of more
 
-module _ {D : Type 0} (sense : Sense D) (good : List ℕ → List ℕ → List ℕ → Bool) (faults : D → ℕ) where
+module _ {D : Type 0} (view : DiskView D) (good : List ℕ → List ℕ → List ℕ → Bool) (faults : D → ℕ) where
   wider_stop : (sealed more : Type 0) (failed : Type 0) (refused others : List ℕ → OpenFault → Type 0) → (sealed → more) → ((n : List ℕ) (c : OpenFault) → refused n c → others n c) → (s : RunStop)
       → IsStopFor sealed failed refused s → IsStopFor more failed others s
   wider_stop sealed more failed refused others to on stop.DiskFault is = is
@@ -362,7 +362,7 @@ module _ {D : Type 0} (sense : Sense D) (good : List ℕ → List ℕ → List �
 
   pub handles_more : {T : Type 0} (sealed more : Type 0) (own : Option Bytes) (refused others : List ℕ → OpenFault → Type 0) (reached wider : List (Named D) → Type 0) (old : List (Named D)) (result : Result T RunStop) (new : List (Named D))
       → (sealed → more) → ((n : List ℕ) (c : OpenFault) → refused n c → others n c) → ((l : List (Named D)) → reached l → wider l)
-      → Handles sense good faults sealed own refused reached old result new → Handles sense good faults more own others wider old result new
+      → Handles view good faults sealed own refused reached old result new → Handles view good faults more own others wider old result new
   handles_more {T = T} sealed more own refused others reached wider old result new to on wide h = record {
     later = h.later;
     up = h.up;
@@ -371,8 +371,8 @@ module _ {D : Type 0} (sense : Sense D) (good : List ℕ → List ℕ → List �
         let c = h.crash safe in (
           c.0,
           λ a before after was is.
-              leaves_more (sense.content before.disk) (sense.content after.disk) (λ image. (replicas : List (Named D)) × reached replicas × OpensIn sense good replicas a image)
-              (λ image. (replicas : List (Named D)) × wider replicas × OpensIn sense good replicas a image) (λ image (replicas, there, opens). (replicas, wide replicas there, opens)) (c.1 a before after was is),
+              leaves_more (view.content before.disk) (view.content after.disk) (λ image. (replicas : List (Named D)) × reached replicas × OpensIn view good replicas a image)
+              (λ image. (replicas : List (Named D)) × wider replicas × OpensIn view good replicas a image) (λ image (replicas, there, opens). (replicas, wide replicas there, opens)) (c.1 a before after was is),
         );
   }
     where

@@ -4,13 +4,14 @@ use Rattle.std.proofs.lemmas.Bool.{and_parts}
 use Rattle.std.proofs.lemmas.Bool.Decides.{nat_tests}
 use Rattle.journal.specs.declared.fault.OpenFault.{OpenFault}
 use Rattle.outside.specs.Causes.{Rose}
-use Rattle.replica.specs.Disks.{Sense}
+use Rattle.outside.specs.Disk.{DiskView}
 use Rattle.replica.specs.declared.refusal.Refusal.{Refusal}
 use Rattle.script.specs.Scripts.{Declared, with_line}
 use Rattle.script.specs.declared.line.Line.{Line}
 use Rattle.script.specs.declared.line.Line.TheVariants as line
 use Rattle.script_texts.specs.Bytes.{Bytes}
-use Rattle.world.specs.Lines.{KeepsRest, Runs, Tags, may_run}
+use Rattle.world.specs.Lines.{KeepsRest, Runs, may_run}
+use Rattle.outside.specs.Envelope.{EnvelopeView}
 use Rattle.world.specs.Stops.{Acts, AreAsHonest, HasCause, HasNumber, IsFront, IsSteady, LeavesFront, NoneFell, OwnFalls, RefusesJournal, Reopens, RestartWords, RunsOrStops, SomeOf, SomeRose, changed_name}
 use Rattle.world.specs.Worlds.{AreUp, Named, Site, declared, disks_of, site_of, with_message}
 use Rattle.world.specs.declared.said.Said.{Said}
@@ -89,7 +90,7 @@ making_quiet one is = ap (λ m. not (m || is_showing one)) is
 showing_quiet : (one : Line) → is_showing one ≡ true → is_changing one ≡ false
 showing_quiet one is = quiet_or (is_making one) (is_showing one) is
 
-module _ {D : Type 0} (tags : Tags) where
+module _ {D : Type 0} (tags : EnvelopeView) where
   -- ---- from the replicas to the world
 
   pub made_runs : (old : Site D) (one : Line) (said : Said) → SaysIn (site_of old.replicas old.messages) one said.text said.message
@@ -176,19 +177,19 @@ module _ {D : Type 0} (tags : Tags) where
 
   -- ---- a line, whatever it answers
 
-  module _ (sense : Sense D) (faults : D → ℕ) (before now : ℕ) where
+  module _ (view : DiskView D) (faults : D → ℕ) (before now : ℕ) where
     -- one that may change replicas
     pub changed_on : (one : Line) (replicas after : List (Named D)) (messages : List (Option Bytes)) (spare : List D) (result : Result Bytes RunStop) → is_changing one ≡ true
-        → (IsSteady sense tags.good replicas one → Changing (RunsIn tags messages one) (SomeOf tags one) replicas result after) → Reopens sense tags.good replicas one result after
-        → Handles sense tags.good faults (Acts one × Rose before now) (changed_name one) (RefusesJournal sense tags.good replicas one) (FrontOf (RunsIn tags messages one) (SomeOf tags one) replicas) replicas result after
-        → RunsOn tags sense faults before now (record { replicas = replicas; messages = messages; spare = spare }) one result (record { replicas = after; messages = messages; spare = spare })
+        → (IsSteady view tags.good replicas one → Changing (RunsIn tags messages one) (SomeOf tags one) replicas result after) → Reopens view tags.good replicas one result after
+        → Handles view tags.good faults (Acts one × Rose before now) (changed_name one) (RefusesJournal view tags.good replicas one) (FrontOf (RunsIn tags messages one) (SomeOf tags one) replicas) replicas result after
+        → RunsOn tags view faults before now (record { replicas = replicas; messages = messages; spare = spare }) one result (record { replicas = after; messages = messages; spare = spare })
     changed_on one replicas after messages spare result changing goes reopens disks =
         let old : Site D = record { replicas = replicas; messages = messages; spare = spare } in
         record {
           reopens = reopens;
           goes = λ steady. changing_runs old (record { replicas = after; messages = messages; spare = spare }) one result (refl, refl) (goes steady);
           passes = record {
-            disks = handles_more sense tags.good faults (Acts one × Rose before now) (Acts one × Rose before now) (changed_name one) (RefusesJournal sense tags.good replicas one) (RefusesJournal sense tags.good replicas one)
+            disks = handles_more view tags.good faults (Acts one × Rose before now) (Acts one × Rose before now) (changed_name one) (RefusesJournal view tags.good replicas one) (RefusesJournal view tags.good replicas one)
                 (FrontOf (RunsIn tags messages one) (SomeOf tags one) replicas) (IsFront tags old one) replicas result after (λ x. x) (λ n c x. x) (λ l there. front_site old one l there) disks;
             counted = counted_by result;
             others = inl refl;
@@ -202,19 +203,19 @@ module _ {D : Type 0} (tags : Tags) where
 
     -- the same of a world that is seen as its parts
     pub changed_by : (one : Line) (replicas after : List (Named D)) (messages seen : List (Option Bytes)) (spare : List D) (result : Result Bytes RunStop) (old : Site D)
-        → old ≡ record { replicas = replicas; messages = messages; spare = spare } → seen ≡ messages → is_changing one ≡ true → Fits tags seen sense faults before now replicas result after one
-        → RunsOn tags sense faults before now old one result (record { replicas = after; messages = messages; spare = spare })
+        → old ≡ record { replicas = replicas; messages = messages; spare = spare } → seen ≡ messages → is_changing one ≡ true → Fits tags seen view faults before now replicas result after one
+        → RunsOn tags view faults before now old one result (record { replicas = after; messages = messages; spare = spare })
     changed_by one replicas after messages seen spare result old is same changing fits =
-        let own = subst (λ ms. Fits tags ms sense faults before now replicas result after one) same fits in
-        subst (λ (site : Site D). RunsOn tags sense faults before now site one result (record { replicas = after; messages = messages; spare = spare })) (sym is)
+        let own = subst (λ ms. Fits tags ms view faults before now replicas result after one) same fits in
+        subst (λ (site : Site D). RunsOn tags view faults before now site one result (record { replicas = after; messages = messages; spare = spare })) (sym is)
         (changed_on one replicas after messages spare result changing own.goes own.reopens own.disks)
 
     -- where the replicas stay
     still_passes : {T : Type 0} (old : Site D) (one : Line) (result : Result T RunStop) (new : Site D) → AreUp old.replicas → new.replicas ≡ old.replicas → new.spare ≡ old.spare → IfErr result (λ s. s ≡ stop.NoMemory)
-        → OnOk result (length new.messages ≡ (with_line (declared old) one).messages) → (new.messages ≡ old.messages) ⊎ HasNumber one → Passes tags sense faults before now old one result new
+        → OnOk result (length new.messages ≡ (with_line (declared old) one).messages) → (new.messages ≡ old.messages) ⊎ HasNumber one → Passes tags view faults before now old one result new
     still_passes {T = T} old one result new up same spare none counted others = record {
-      disks = subst (λ (l : List (Named D)). Handles sense tags.good faults (Acts one × Rose before now) (changed_name one) (RefusesJournal sense tags.good old.replicas one) (IsFront tags old one) old.replicas result l) (sym same)
-          (handles_still sense tags.good (IsFront tags old one) faults (Acts one × Rose before now) (changed_name one) (RefusesJournal sense tags.good old.replicas one) old.replicas result up (inl refl) none);
+      disks = subst (λ (l : List (Named D)). Handles view tags.good faults (Acts one × Rose before now) (changed_name one) (RefusesJournal view tags.good old.replicas one) (IsFront tags old one) old.replicas result l) (sym same)
+          (handles_still view tags.good (IsFront tags old one) faults (Acts one × Rose before now) (changed_name one) (RefusesJournal view tags.good old.replicas one) old.replicas result up (inl refl) none);
       counted = counted;
       others = others;
       spare = spare;
@@ -224,7 +225,7 @@ module _ {D : Type 0} (tags : Tags) where
     still_front old one = record { replicas = old.replicas; front = inl refl; alike = alike_same old.replicas; spare = refl }
 
     -- one that is no restart
-    quiet_opens : (old new : List (Named D)) (one : Line) (result : Result Bytes RunStop) → is_changing one ≡ false → Reopens sense tags.good old one result new
+    quiet_opens : (old new : List (Named D)) (one : Line) (result : Result Bytes RunStop) → is_changing one ≡ false → Reopens view tags.good old one result new
     quiet_opens old new (line.Restart a) result quiet = absurd cc
     quiet_opens old new (line.Replica a) result quiet = tt
     quiet_opens old new (line.Init a f args) result quiet = tt
@@ -242,12 +243,12 @@ module _ {D : Type 0} (tags : Tags) where
     quiet_opens old new line.Blank result quiet = tt
 
     -- one that lacks memory, and leaves all
-    pub lacks_on : (old : Site D) (one : Line) (s : RunStop) → is_changing one ≡ false → AreUp old.replicas → s ≡ stop.NoMemory → RunsOn tags sense faults before now old one (Err s) old
+    pub lacks_on : (old : Site D) (one : Line) (s : RunStop) → is_changing one ≡ false → AreUp old.replicas → s ≡ stop.NoMemory → RunsOn tags view faults before now old one (Err s) old
     lacks_on old one s quiet up none = record { reopens = quiet_opens old.replicas old.replicas one (Err s) quiet; goes = λ steady. still_front old one; passes = still_passes old one (Err s) old up refl refl none tt (inl refl) }
 
     -- one that makes a message
     pub made_on : (old : Site D) (one : Line) (said : Said) (result : Result Bytes RunStop) (new : Site D) → is_changing one ≡ false → HasNumber one → AreUp old.replicas → SaysIn (site_of old.replicas old.messages) one said.text said.message
-        → Keeping old said result new → RunsOn tags sense faults before now old one result new
+        → Keeping old said result new → RunsOn tags view faults before now old one result new
     made_on old one said (Ok text) new quiet numbered up says (same, set) =
         let runs : Runs tags old one text new = subst (λ t. Runs tags old one t new) (sym same) (subst (Runs tags old one said.text) (sym set) (made_runs old one said says)) in
         record {
@@ -255,22 +256,22 @@ module _ {D : Type 0} (tags : Tags) where
           goes = λ steady. runs;
           passes = still_passes old one (Ok text) new up (ap (λ (x : Site D). x.replicas) set) (ap (λ (x : Site D). x.spare) set) tt (runs_count old one text new runs) (inr numbered);
         }
-    made_on old one said (Err s) new quiet numbered up says (none, set) = subst (RunsOn tags sense faults before now old one (Err s)) (sym set) (lacks_on old one s quiet up none)
+    made_on old one said (Err s) new quiet numbered up says (none, set) = subst (RunsOn tags view faults before now old one (Err s)) (sym set) (lacks_on old one s quiet up none)
 
     -- the same of what its function says
     pub making_on : (old : Site D) (one : Line) (said : Said) (result : Result Bytes RunStop) (new : Site D) → is_making one ≡ true → AreUp old.replicas → Making (SaysIn (site_of old.replicas old.messages) one) (Ok said)
-        → Keeping old said result new → RunsOn tags sense faults before now old one result new
+        → Keeping old said result new → RunsOn tags view faults before now old one result new
     making_on old one said result new making up says keeps = made_on old one said result new (making_quiet one making) (numbered one making) up says keeps
 
     -- one that tells what is held
-    pub shown_on : (old : Site D) (one : Line) (result : Result Bytes RunStop) → AreUp old.replicas → is_showing one ≡ true → Showing (ShowsIn old.replicas one) result → RunsOn tags sense faults before now old one result old
+    pub shown_on : (old : Site D) (one : Line) (result : Result Bytes RunStop) → AreUp old.replicas → is_showing one ≡ true → Showing (ShowsIn old.replicas one) result → RunsOn tags view faults before now old one result old
     shown_on old one (Ok text) up showing says =
         record { reopens = quiet_opens old.replicas old.replicas one (Ok text) (showing_quiet one showing); goes = λ steady. shown_runs old one text says; passes = still_passes old one (Ok text) old up refl refl tt (showing_count (declared old) one showing) (inl refl) }
     shown_on old one (Err s) up showing none = lacks_on old one s (showing_quiet one showing) up none
 
     -- ---- its text
 
-    pub steps_stopped : {T : Type 0} (old : Site D) (one : Line) (into : Bytes) (s : RunStop) (new : Site D) → RunsOn tags sense faults before now old one (Err s) new → StepsOn tags sense faults before now {T = T} old one into (Err s) into new
+    pub steps_stopped : {T : Type 0} (old : Site D) (one : Line) (into : Bytes) (s : RunStop) (new : Site D) → RunsOn tags view faults before now old one (Err s) new → StepsOn tags view faults before now {T = T} old one into (Err s) into new
     steps_stopped old one into s new on = record {
       reopens = (on.reopens, refl);
       goes = λ steady. (on.goes steady, refl);
@@ -286,7 +287,7 @@ module _ {D : Type 0} (tags : Tags) where
     unsaid_words a text s (Ok count) none words = none
     unsaid_words a text s (Err why) none words = absurd words
 
-    unsaid_opens : (one : Line) (text : Bytes) (s : RunStop) (old new : List (Named D)) → s ≡ stop.NoMemory → Reopens sense tags.good old one (Ok text) new → Reopens sense tags.good old one (Err s) new
+    unsaid_opens : (one : Line) (text : Bytes) (s : RunStop) (old new : List (Named D)) → s ≡ stop.NoMemory → Reopens view tags.good old one (Ok text) new → Reopens view tags.good old one (Err s) new
     unsaid_opens (line.Restart a) text s old new none (reply, calls, words) = (reply, calls, unsaid_words a text s reply none words)
     unsaid_opens (line.Replica a) text s old new none is = tt
     unsaid_opens (line.Init a f args) text s old new none is = tt
@@ -303,8 +304,8 @@ module _ {D : Type 0} (tags : Tags) where
     unsaid_opens (line.Graph a) text s old new none is = tt
     unsaid_opens line.Blank text s old new none is = tt
 
-    pub steps_unsaid : {T : Type 0} (old : Site D) (one : Line) (into text : Bytes) (s : RunStop) (new : Site D) → s ≡ stop.NoMemory → RunsOn tags sense faults before now old one (Ok text) new
-        → StepsOn tags sense faults before now {T = T} old one into (Err s) into new
+    pub steps_unsaid : {T : Type 0} (old : Site D) (one : Line) (into text : Bytes) (s : RunStop) (new : Site D) → s ≡ stop.NoMemory → RunsOn tags view faults before now old one (Ok text) new
+        → StepsOn tags view faults before now {T = T} old one into (Err s) into new
     steps_unsaid old one into text s new none on = record {
       reopens = (unsaid_opens one text s old.replicas new.replicas none on.reopens, refl);
       goes = λ steady. (record { replicas = new.replicas; front = inr (inl (text, new, on.goes steady, refl)); alike = alike_same new.replicas; spare = on.passes.spare }, refl);
@@ -312,7 +313,7 @@ module _ {D : Type 0} (tags : Tags) where
         disks = record {
           later = on.passes.disks.later;
           up = tt;
-          cause = subst (IsStopFor (Acts one × Rose before now) (Fell faults (changed_name one) old.replicas new.replicas) (RefusesJournal sense tags.good old.replicas one)) (sym none) tt;
+          cause = subst (IsStopFor (Acts one × Rose before now) (Fell faults (changed_name one) old.replicas new.replicas) (RefusesJournal view tags.good old.replicas one)) (sym none) tt;
           crash = on.passes.disks.crash;
         };
         counted = tt;
@@ -321,8 +322,8 @@ module _ {D : Type 0} (tags : Tags) where
       };
     }
 
-    pub steps_said : {T : Type 0} (old : Site D) (one : Line) (into text after : Bytes) (reply : T) (new : Site D) → after ≡ into ++ text → RunsOn tags sense faults before now old one (Ok text) new
-        → StepsOn tags sense faults before now old one into (Ok reply) after new
+    pub steps_said : {T : Type 0} (old : Site D) (one : Line) (into text after : Bytes) (reply : T) (new : Site D) → after ≡ into ++ text → RunsOn tags view faults before now old one (Ok text) new
+        → StepsOn tags view faults before now old one into (Ok reply) after new
     steps_said old one into text after reply new said on = record {
       reopens = (text, on.reopens, said);
       goes = λ steady. (text, on.goes steady, said);
@@ -336,7 +337,7 @@ module _ {D : Type 0} (tags : Tags) where
 
 -- ---- what a step says, one by one
 
-module _ {D : Type 0} (sense : Sense D) (good : List ℕ → List ℕ → List ℕ → Bool) (faults : D → ℕ) (before now : ℕ) (old new : Site D) (one : Line) (spare : new.spare ≡ old.spare) where
+module _ {D : Type 0} (view : DiskView D) (good : List ℕ → List ℕ → List ℕ → Bool) (faults : D → ℕ) (before now : ℕ) (old new : Site D) (one : Line) (spare : new.spare ≡ old.spare) where
   abbrev Disks : Type 0
   Disks = Fell faults (changed_name one) old.replicas new.replicas
 
@@ -345,7 +346,7 @@ module _ {D : Type 0} (sense : Sense D) (good : List ℕ → List ℕ → List �
       subst (λ more. SomeRose faults (disks_of old) (map (λ r. r.kept.disk) new.replicas ++ more)) (sym spare)
       (rose_more faults (map (λ r. r.kept.disk) old.replicas) (map (λ r. r.kept.disk) new.replicas) old.spare fell.0)
 
-  cause_of : (s : RunStop) → IsStopFor (Acts one × Rose before now) Disks (RefusesJournal sense good old.replicas one) s → HasCause before now faults (disks_of old) (disks_of new) s
+  cause_of : (s : RunStop) → IsStopFor (Acts one × Rose before now) Disks (RefusesJournal view good old.replicas one) s → HasCause before now faults (disks_of old) (disks_of new) s
   cause_of stop.DiskFault is = rose_disks is
   cause_of stop.SealFault is = is.1
   cause_of (stop.Journal name cause) is = tt
@@ -353,30 +354,30 @@ module _ {D : Type 0} (sense : Sense D) (good : List ℕ → List ℕ → List �
 
   module _ {T : Type 0} (reached : List (Named D) → Type 0) where
     abbrev Handled : Result T RunStop → Type 0
-    Handled result = Handles sense good faults (Acts one × Rose before now) (changed_name one) (RefusesJournal sense good old.replicas one) reached old.replicas result new.replicas
+    Handled result = Handles view good faults (Acts one × Rose before now) (changed_name one) (RefusesJournal view good old.replicas one) reached old.replicas result new.replicas
 
     pub step_cause : (result : Result T RunStop) → Handled result → IfErr result (HasCause before now faults (disks_of old) (disks_of new))
     step_cause (Ok r) h = tt
     step_cause (Err s) h = cause_of s h.cause
 
     pub step_own : (result : Result T RunStop) → Handled result → result ≡ Err stop.DiskFault → OwnFalls faults (changed_name one) old.replicas new.replicas
-    step_own result h is = (subst (λ r. IfErr r (IsStopFor (Acts one × Rose before now) Disks (RefusesJournal sense good old.replicas one))) is h.cause).1
+    step_own result h is = (subst (λ r. IfErr r (IsStopFor (Acts one × Rose before now) Disks (RefusesJournal view good old.replicas one))) is h.cause).1
 
     pub step_seals : (result : Result T RunStop) → Handled result → IfErr result (λ s. s ≡ stop.SealFault → Acts one)
     step_seals (Ok r) h = tt
-    step_seals (Err s) h = λ is. (subst (IsStopFor (Acts one × Rose before now) Disks (RefusesJournal sense good old.replicas one)) is h.cause).0
+    step_seals (Err s) h = λ is. (subst (IsStopFor (Acts one × Rose before now) Disks (RefusesJournal view good old.replicas one)) is h.cause).0
 
-    pub step_journals : (result : Result T RunStop) → Handled result → (name : List ℕ) (cause : OpenFault) → result ≡ Err (stop.Journal name cause) → RefusesJournal sense good old.replicas one name cause
+    pub step_journals : (result : Result T RunStop) → Handled result → (name : List ℕ) (cause : OpenFault) → result ≡ Err (stop.Journal name cause) → RefusesJournal view good old.replicas one name cause
     step_journals result h name cause is =
-        subst (λ r. IfErr r (IsStopFor (Acts one × Rose before now) Disks (RefusesJournal sense good old.replicas one))) is h.cause
+        subst (λ r. IfErr r (IsStopFor (Acts one × Rose before now) Disks (RefusesJournal view good old.replicas one))) is h.cause
 
     pub step_disks : (result : Result T RunStop) → Handled result → NoneFell faults (disks_of old) (disks_of new)
     step_disks result h =
-        subst (λ more. NoneFell faults (disks_of old) (map (λ r. r.kept.disk) new.replicas ++ more)) (sym spare) (none_fell faults sense.honest old.replicas new.replicas old.spare h.later)
+        subst (λ more. NoneFell faults (disks_of old) (map (λ r. r.kept.disk) new.replicas ++ more)) (sym spare) (none_fell faults view.honest old.replicas new.replicas old.spare h.later)
 
-    pub step_honest : (result : Result T RunStop) → Handled result → AreAsHonest sense.honest (disks_of old) (disks_of new)
+    pub step_honest : (result : Result T RunStop) → Handled result → AreAsHonest view.honest (disks_of old) (disks_of new)
     step_honest result h =
-        subst (λ more. AreAsHonest sense.honest (disks_of old) (map (λ r. r.kept.disk) new.replicas ++ more)) (sym spare) (all_as_honest faults sense.honest old.replicas new.replicas old.spare h.later)
+        subst (λ more. AreAsHonest view.honest (disks_of old) (map (λ r. r.kept.disk) new.replicas ++ more)) (sym spare) (all_as_honest faults view.honest old.replicas new.replicas old.spare h.later)
 
 -- a line that makes a message has room for it
 module _ {D : Type 0} (site : Site D) where

@@ -8,10 +8,10 @@ use Rattle.std.proofs.lemmas.Option.{same_Some}
 use Rattle.journal.specs.Journal.{WasOrReadsAlike}
 use Rattle.journal.specs.declared.fault.OpenFault.{OpenFault}
 use Rattle.outside.specs.Causes.{Rose}
-use Rattle.outside.specs.Disk.{Content}
+use Rattle.outside.specs.Disk.{Content, DiskView}
 use Rattle.outside.proofs.Crashes.{no_calls}
 use Rattle.policy_ast.specs.declared.policy.PlacedItem.{PlacedItem}
-use Rattle.replica.specs.Disks.{AreSoundFronts, OpensWhole, Sense}
+use Rattle.replica.specs.Disks.{AreSoundFronts, OpensWhole}
 use Rattle.replica.specs.Fronts.{front_of}
 use Rattle.replica.specs.Kept.{Kept}
 use Rattle.script_texts.specs.Bytes.{Bytes}
@@ -122,24 +122,24 @@ module _ {D : Type 0} where
   honest_same : (honest : D → Bool) (disks : List D) → AreAsHonest honest disks disks
   honest_same honest disks = pair_same (λ (d e : D). honest e ≡ honest d) (λ d. refl) disks
 
-  module _ (sense : Sense D) (good : List ℕ → List ℕ → List ℕ → Bool) where
+  module _ (view : DiskView D) (good : List ℕ → List ℕ → List ℕ → Bool) where
     -- the replica of a name is safe where each is
-    safe_front : (b : Bool) (r : Named D) (rs : List (Named D)) (a : Bytes) (kept : Kept D) → IsSafe sense good r.kept → (kept_of rs a ≡ Some kept → IsSafe sense good kept)
-        → option_map (λ (x : Named D). x.kept) (cond b (Some r) (find (λ x. bytes_eq x.name a) rs)) ≡ Some kept → IsSafe sense good kept
-    safe_front true r rs a kept here behind is = subst (λ (k : Kept D). IsSafe sense good k) (same_Some r.kept kept is) here
+    safe_front : (b : Bool) (r : Named D) (rs : List (Named D)) (a : Bytes) (kept : Kept D) → IsSafe view good r.kept → (kept_of rs a ≡ Some kept → IsSafe view good kept)
+        → option_map (λ (x : Named D). x.kept) (cond b (Some r) (find (λ x. bytes_eq x.name a) rs)) ≡ Some kept → IsSafe view good kept
+    safe_front true r rs a kept here behind is = subst (λ (k : Kept D). IsSafe view good k) (same_Some r.kept kept is) here
     safe_front false r rs a kept here behind is = behind is
 
-    pub are_safe : (replicas : List (Named D)) → EachSafe sense good replicas → AreSafe sense good replicas
+    pub are_safe : (replicas : List (Named D)) → EachSafe view good replicas → AreSafe view good replicas
     are_safe [] each a kept is = absurd cc
     are_safe (r ∷ rs) each a kept is = safe_front (bytes_eq r.name a) r rs a kept each.0 (are_safe rs each.1 a kept) is
 
     module _ (policy : List PlacedItem) (digest : List ℕ) where
-      still_whole : (disks : List D) → OpenWhole sense good policy digest disks disks
-      still_whole disks = pair_same (λ (d e : D). OpensWhole digest (sense.content d) (sense.content e)) (λ d. opens_still digest (sense.content d)) disks
+      still_whole : (disks : List D) → OpenWhole view good policy digest disks disks
+      still_whole disks = pair_same (λ (d e : D). OpensWhole digest (view.content d) (view.content e)) (λ d. opens_still digest (view.content d)) disks
 
       opened_on : (names : List Bytes) (disks : List D) (replicas : List (Named D)) (faults : D → ℕ) (name : Bytes) (disk : D) (one : Named D)
-          → AreOpened sense good policy digest names disks replicas → length disks ≡ length names → IsOpenedAs sense good faults policy digest name disk one
-          → AreOpened sense good policy digest (names ++ name ∷ []) (disks ++ disk ∷ []) (replicas ++ one ∷ [])
+          → AreOpened view good policy digest names disks replicas → length disks ≡ length names → IsOpenedAs view good faults policy digest name disk one
+          → AreOpened view good policy digest (names ++ name ∷ []) (disks ++ disk ∷ []) (replicas ++ one ∷ [])
       opened_on [] [] [] faults name disk one opened same is = (is.named, is.opened, is.opens, tt)
       opened_on [] (d ∷ ds) rs faults name disk one opened same is = absurd (omega (arith, same))
       opened_on [] [] (r ∷ rs) faults name disk one opened same is = absurd opened
@@ -149,8 +149,8 @@ module _ {D : Type 0} where
           (opened.0, opened.1, opened.2, opened_on ns ds rs faults name disk one opened.3 (omega (arith, same)) is)
 
       -- more disks behind them
-      opened_before : (names : List Bytes) (disks more : List D) (replicas : List (Named D)) → AreOpened sense good policy digest names disks replicas → length disks ≡ length names
-          → AreOpened sense good policy digest names (disks ++ more) replicas
+      opened_before : (names : List Bytes) (disks more : List D) (replicas : List (Named D)) → AreOpened view good policy digest names disks replicas → length disks ≡ length names
+          → AreOpened view good policy digest names (disks ++ more) replicas
       opened_before [] [] more [] opened same = tt
       opened_before [] (d ∷ ds) more rs opened same = absurd (omega (arith, same))
       opened_before [] [] more (r ∷ rs) opened same = absurd opened
@@ -160,8 +160,8 @@ module _ {D : Type 0} where
 
       -- behind those that are opened one is refused
       refuses_behind : (names : List Bytes) (disks : List D) (replicas : List (Named D)) (name : Bytes) (rest : List Bytes) (disk : D) (left : List D) (told : Bytes) (cause : OpenFault)
-          → AreOpened sense good policy digest names disks replicas → length disks ≡ length names → told ≡ name → IsRefused sense good (criteria sense good policy digest) disk cause
-          → RefusesFirst sense good policy digest (names ++ name ∷ rest) (disks ++ disk ∷ left) told cause
+          → AreOpened view good policy digest names disks replicas → length disks ≡ length names → told ≡ name → IsRefused view good (criteria view good policy digest) disk cause
+          → RefusesFirst view good policy digest (names ++ name ∷ rest) (disks ++ disk ∷ left) told cause
       refuses_behind [] [] rs name rest disk left told cause opened same is refused = inl (is, refused)
       refuses_behind [] (d ∷ ds) rs name rest disk left told cause opened same is refused = absurd (omega (arith, same))
       refuses_behind (n ∷ ns) [] rs name rest disk left told cause opened same is refused = absurd (omega (arith, same))
@@ -171,8 +171,8 @@ module _ {D : Type 0} where
 
       -- behind those that are opened one fails
       fails_behind : (faults : D → ℕ) (names : List Bytes) (disks : List D) (replicas : List (Named D)) (name : Bytes) (rest : List Bytes) (disk back : D) (left : List D)
-          → AreOpened sense good policy digest names disks replicas → length disks ≡ length names → Rose (faults disk) (faults back)
-          → FailsFirst sense good policy digest faults (names ++ name ∷ rest) (disks ++ disk ∷ left) (map (λ r. r.kept.disk) replicas ++ back ∷ left)
+          → AreOpened view good policy digest names disks replicas → length disks ≡ length names → Rose (faults disk) (faults back)
+          → FailsFirst view good policy digest faults (names ++ name ∷ rest) (disks ++ disk ∷ left) (map (λ r. r.kept.disk) replicas ++ back ∷ left)
       fails_behind faults [] [] [] name rest disk back left opened same rose = inl (rose, refl)
       fails_behind faults [] [] (r ∷ rs) name rest disk back left opened same rose = absurd opened
       fails_behind faults [] (d ∷ ds) rs name rest disk back left opened same rose = absurd (omega (arith, same))
@@ -183,10 +183,10 @@ module _ {D : Type 0} where
 
 -- ---- the loop
 
-module _ {D : Type 0} (sense : Sense D) (good : List ℕ → List ℕ → List ℕ → Bool) (faults : D → ℕ) (digest : List ℕ) where
+module _ {D : Type 0} (view : DiskView D) (good : List ℕ → List ℕ → List ℕ → Bool) (faults : D → ℕ) (digest : List ℕ) where
   -- none is opened yet
   pub opens_first : {A : Type 0} (rules : A → List PlacedItem) (all : List A) (names : List Bytes) (disks : List D) (room wide : ℕ) (replicas : List (Named D)) → replicas ≡ [] → length all ≡ length names
-      → length names ≤ length disks → length names ≤ room → length disks ≤ wide → OpensSoFar sense good faults digest rules all names disks room wide replicas all names disks
+      → length names ≤ length disks → length names ≤ room → length disks ≤ wide → OpensSoFar view good faults digest rules all names disks room wide replicas all names disks
   opens_first rules all names disks room wide [] none counted enough place fits = record {
     before = [];
     firsts = [];
@@ -208,9 +208,9 @@ module _ {D : Type 0} (sense : Sense D) (good : List ℕ → List ℕ → List �
   module _ {A : Type 0} (rules : A → List PlacedItem) (all : List A) (names : List Bytes) (disks : List D) where
     -- one more is opened
     opens_on : (room wide more_room more_wide : ℕ) (replicas : List (Named D)) (runner : A) (runners : List A) (name : Bytes) (rest : List Bytes) (disk : D) (left : List D) (one : Named D)
-        → room ≤ more_room → wide ≤ more_wide → IsOpenedAs sense good faults (rules runner) digest name disk one
-        → OpensSoFar sense good faults digest rules all names disks room wide replicas (runner ∷ runners) (name ∷ rest) (disk ∷ left)
-        → OpensSoFar sense good faults digest rules all names disks more_room more_wide (replicas ++ one ∷ []) runners rest left
+        → room ≤ more_room → wide ≤ more_wide → IsOpenedAs view good faults (rules runner) digest name disk one
+        → OpensSoFar view good faults digest rules all names disks room wide replicas (runner ∷ runners) (name ∷ rest) (disk ∷ left)
+        → OpensSoFar view good faults digest rules all names disks more_room more_wide (replicas ++ one ∷ []) runners rest left
     opens_on room wide more_room more_wide replicas runner runners name rest disk left one up wider is so = record {
       before = so.before ++ name ∷ [];
       firsts = so.firsts ++ disk ∷ [];
@@ -225,54 +225,54 @@ module _ {D : Type 0} (sense : Sense D) (good : List ℕ → List ℕ → List �
       sound = each_on (λ (r : Named D). AreSoundFronts good r.kept) replicas one so.sound is.sound;
       none_fell = subst (λ ds. NoneFell faults (so.firsts ++ disk ∷ []) ds) (sym (disks_on replicas one))
           (pairs_on (λ (d e : D). faults d ≤ faults e) so.firsts (map (λ (r : Named D). r.kept.disk) replicas) (disk ∷ []) (one.kept.disk ∷ []) so.none_fell (is.disk_then.later, tt));
-      as_honest = subst (λ ds. AreAsHonest sense.honest (so.firsts ++ disk ∷ []) ds) (sym (disks_on replicas one))
-          (pairs_on (λ (d e : D). sense.honest e ≡ sense.honest d) so.firsts (map (λ (r : Named D). r.kept.disk) replicas) (disk ∷ []) (one.kept.disk ∷ []) so.as_honest (is.disk_then.as_honest, tt));
+      as_honest = subst (λ ds. AreAsHonest view.honest (so.firsts ++ disk ∷ []) ds) (sym (disks_on replicas one))
+          (pairs_on (λ (d e : D). view.honest e ≡ view.honest d) so.firsts (map (λ (r : Named D). r.kept.disk) replicas) (disk ∷ []) (one.kept.disk ∷ []) so.as_honest (is.disk_then.as_honest, tt));
       told = λ policy each.
           let told = so.told policy each in
           let same : rules runner ≡ policy = All-head (λ x. rules x ≡ policy) runner runners told.left in
-          opened_under policy told (subst (λ p. IsOpenedAs sense good faults p digest name disk one) same is);
+          opened_under policy told (subst (λ p. IsOpenedAs view good faults p digest name disk one) same is);
     } where
-      opened_under : (policy : List PlacedItem) → OpenedSoFar sense good faults digest rules policy (runner ∷ runners) so.before so.firsts replicas → IsOpenedAs sense good faults policy digest name disk one
-          → OpenedSoFar sense good faults digest rules policy runners (so.before ++ name ∷ []) (so.firsts ++ disk ∷ []) (replicas ++ one ∷ [])
+      opened_under : (policy : List PlacedItem) → OpenedSoFar view good faults digest rules policy (runner ∷ runners) so.before so.firsts replicas → IsOpenedAs view good faults policy digest name disk one
+          → OpenedSoFar view good faults digest rules policy runners (so.before ++ name ∷ []) (so.firsts ++ disk ∷ []) (replicas ++ one ∷ [])
       opened_under policy told is = record {
         left = All-tail (λ x. rules x ≡ policy) runner runners told.left;
-        opened = opened_on sense good policy digest so.before so.firsts replicas faults name disk one told.opened so.paired is;
+        opened = opened_on view good policy digest so.before so.firsts replicas faults name disk one told.opened so.paired is;
         crash = λ tells honest.
-            let those = told.crash tells (each_front (λ (d : D). IsTrue (sense.honest d)) so.firsts (disk ∷ []) honest) in
-            let this : IsTrue (sense.honest disk) = (each_behind (λ (d : D). IsTrue (sense.honest d)) so.firsts (disk ∷ []) honest).0 in (
-              subst (λ ds. OpenWhole sense good policy digest (so.firsts ++ disk ∷ []) ds) (sym (disks_on replicas one))
-                  (pairs_on (λ (d e : D). OpensWhole digest (sense.content d) (sense.content e)) so.firsts (map (λ (r : Named D). r.kept.disk) replicas) (disk ∷ []) (one.kept.disk ∷ [])
+            let those = told.crash tells (each_front (λ (d : D). IsTrue (view.honest d)) so.firsts (disk ∷ []) honest) in
+            let this : IsTrue (view.honest disk) = (each_behind (λ (d : D). IsTrue (view.honest d)) so.firsts (disk ∷ []) honest).0 in (
+              subst (λ ds. OpenWhole view good policy digest (so.firsts ++ disk ∷ []) ds) (sym (disks_on replicas one))
+                  (pairs_on (λ (d e : D). OpensWhole digest (view.content d) (view.content e)) so.firsts (map (λ (r : Named D). r.kept.disk) replicas) (disk ∷ []) (one.kept.disk ∷ [])
                   those.0 (is.disk_then.whole tells this, tt)),
-              each_on (λ (r : Named D). IsSafe sense good r.kept) replicas one those.1 (is.safe tells this),
+              each_on (λ (r : Named D). IsSafe view good r.kept) replicas one those.1 (is.safe tells this),
             );
       }
 
     -- the first runner, the name at hand and the first disk are taken
     pub opens_at : (room wide : ℕ) (replicas : List (Named D)) (runners behind : List A) (runner : A) (i : ℕ) (name : Bytes) (left rest : List D) (disk : D)
         → i < length names → name ≡ get_or names i name → runner ≡ get_or runners 0 runner → behind ≡ remove runners 0 → disk ≡ get_or left 0 disk → rest ≡ remove left 0
-        → OpensSoFar sense good faults digest rules all names disks room wide replicas runners (drop i names) left
-        → OpensSoFar sense good faults digest rules all names disks room wide replicas (runner ∷ behind) (name ∷ drop (i + 1) names) (disk ∷ rest)
+        → OpensSoFar view good faults digest rules all names disks room wide replicas runners (drop i names) left
+        → OpensSoFar view good faults digest rules all names disks room wide replicas (runner ∷ behind) (name ∷ drop (i + 1) names) (disk ∷ rest)
     opens_at room wide replicas runners behind runner i name left rest disk inside named first others front later so =
-        let at = subst (λ ns. OpensSoFar sense good faults digest rules all names disks room wide replicas runners ns left) (name_at names i name inside named) so in
+        let at = subst (λ ns. OpensSoFar view good faults digest rules all names disks room wide replicas runners ns left) (name_at names i name inside named) so in
         let some : 0 < length runners = omega (arith, at.counted) in
         let enough : 0 < length left = omega (arith, at.enough) in
-        let by = subst (λ rs. OpensSoFar sense good faults digest rules all names disks room wide replicas rs (name ∷ drop (i + 1) names) left) (first_off runners behind runner some first others) at in
-        subst (λ ds. OpensSoFar sense good faults digest rules all names disks room wide replicas (runner ∷ behind) (name ∷ drop (i + 1) names) ds) (first_off left rest disk enough front later) by
+        let by = subst (λ rs. OpensSoFar view good faults digest rules all names disks room wide replicas rs (name ∷ drop (i + 1) names) left) (first_off runners behind runner some first others) at in
+        subst (λ ds. OpensSoFar view good faults digest rules all names disks room wide replicas (runner ∷ behind) (name ∷ drop (i + 1) names) ds) (first_off left rest disk enough front later) by
 
     pub opens_more : (room wide more_room more_wide : ℕ) (replicas grown : List (Named D)) (runners behind : List A) (runner : A) (i : ℕ) (name : Bytes) (left rest : List D) (disk : D) (one : Named D)
         → room ≤ more_room → wide ≤ more_wide → i < length names → name ≡ get_or names i name → runner ≡ get_or runners 0 runner → behind ≡ remove runners 0
-        → disk ≡ get_or left 0 disk → rest ≡ remove left 0 → IsOpenedAs sense good faults (rules runner) digest name disk one → grown ≡ replicas ++ one ∷ []
-        → OpensSoFar sense good faults digest rules all names disks room wide replicas runners (drop i names) left
-        → OpensSoFar sense good faults digest rules all names disks more_room more_wide grown behind (drop (i + 1) names) rest
+        → disk ≡ get_or left 0 disk → rest ≡ remove left 0 → IsOpenedAs view good faults (rules runner) digest name disk one → grown ≡ replicas ++ one ∷ []
+        → OpensSoFar view good faults digest rules all names disks room wide replicas runners (drop i names) left
+        → OpensSoFar view good faults digest rules all names disks more_room more_wide grown behind (drop (i + 1) names) rest
     opens_more room wide more_room more_wide replicas grown runners behind runner i name left rest disk one up wider inside named first others front later is added so =
-        subst (λ rs. OpensSoFar sense good faults digest rules all names disks more_room more_wide rs behind (drop (i + 1) names) rest) (sym added)
+        subst (λ rs. OpensSoFar view good faults digest rules all names disks more_room more_wide rs behind (drop (i + 1) names) rest) (sym added)
         (opens_on room wide more_room more_wide replicas runner behind name (drop (i + 1) names) disk rest one up wider is
         (opens_at room wide replicas runners behind runner i name left rest disk inside named first others front later so))
 
     -- ---- all are opened
 
-    module _ (room wide : ℕ) (replicas : List (Named D)) (runners : List A) (rest : List Bytes) (left : List D) (so : OpensSoFar sense good faults digest rules all names disks room wide replicas runners rest left) where
-      pub all_up : length rest ≡ 0 → AreAllUp sense good faults names disks replicas left
+    module _ (room wide : ℕ) (replicas : List (Named D)) (runners : List A) (rest : List Bytes) (left : List D) (so : OpensSoFar view good faults digest rules all names disks room wide replicas runners rest left) where
+      pub all_up : length rest ≡ 0 → AreAllUp view good faults names disks replicas left
       all_up none =
           let same : so.before ≡ names = sym (no_rest so.before rest none) ∙ so.named in
           let behind : left ≡ drop (length names) disks =
@@ -284,23 +284,23 @@ module _ {D : Type 0} (sense : Sense D) (good : List ℕ → List ℕ → List �
             beyond = sym (behind_all names (map (λ (r : Named D). r.kept.disk) replicas) left many) ∙ behind;
             up = so.up;
             sound = so.sound;
-            as_honest = subst (λ ds. AreAsHonest sense.honest ds (map (λ r. r.kept.disk) replicas ++ left)) so.taken
-                (pairs_on (λ (d e : D). sense.honest e ≡ sense.honest d) so.firsts (map (λ (r : Named D). r.kept.disk) replicas) left left so.as_honest (honest_same sense.honest left));
+            as_honest = subst (λ ds. AreAsHonest view.honest ds (map (λ r. r.kept.disk) replicas ++ left)) so.taken
+                (pairs_on (λ (d e : D). view.honest e ≡ view.honest d) so.firsts (map (λ (r : Named D). r.kept.disk) replicas) left left so.as_honest (honest_same view.honest left));
             none_fell = subst (λ ds. NoneFell faults ds (map (λ r. r.kept.disk) replicas ++ left)) so.taken
                 (pairs_on (λ (d e : D). faults d ≤ faults e) so.firsts (map (λ (r : Named D). r.kept.disk) replicas) left left so.none_fell (none_fell_same faults left));
           }
 
-      pub all_opened : (policy : List PlacedItem) → All (λ r. rules r ≡ policy) all → length rest ≡ 0 → AreAllOpened sense good faults policy digest names disks replicas left
+      pub all_opened : (policy : List PlacedItem) → All (λ r. rules r ≡ policy) all → length rest ≡ 0 → AreAllOpened view good faults policy digest names disks replicas left
       all_opened policy each none =
           let told = so.told policy each in
           let same : so.before ≡ names = sym (no_rest so.before rest none) ∙ so.named in
           record {
-            opened = subst (λ ns. AreOpened sense good policy digest ns disks replicas) same
-                (subst (λ ds. AreOpened sense good policy digest so.before ds replicas) so.taken (opened_before sense good policy digest so.before so.firsts left replicas told.opened so.paired));
+            opened = subst (λ ns. AreOpened view good policy digest ns disks replicas) same
+                (subst (λ ds. AreOpened view good policy digest so.before ds replicas) so.taken (opened_before view good policy digest so.before so.firsts left replicas told.opened so.paired));
             crash = λ tells honest.
-                let those = told.crash tells (each_front (λ (d : D). IsTrue (sense.honest d)) so.firsts left (subst (λ ds. AllHonest sense ds) (sym so.taken) honest)) in (
-                  subst (λ ds. OpenWhole sense good policy digest ds (map (λ r. r.kept.disk) replicas ++ left)) so.taken
-                      (pairs_on (λ (d e : D). OpensWhole digest (sense.content d) (sense.content e)) so.firsts (map (λ (r : Named D). r.kept.disk) replicas) left left those.0 (still_whole sense good policy digest left)),
+                let those = told.crash tells (each_front (λ (d : D). IsTrue (view.honest d)) so.firsts left (subst (λ ds. AllHonest view ds) (sym so.taken) honest)) in (
+                  subst (λ ds. OpenWhole view good policy digest ds (map (λ r. r.kept.disk) replicas ++ left)) so.taken
+                      (pairs_on (λ (d e : D). OpensWhole digest (view.content d) (view.content e)) so.firsts (map (λ (r : Named D). r.kept.disk) replicas) left left those.0 (still_whole view good policy digest left)),
                   those.1,
                 );
           }
@@ -308,13 +308,13 @@ module _ {D : Type 0} (sense : Sense D) (good : List ℕ → List ℕ → List �
     -- ---- one isn't
 
     why_not : (policy : List PlacedItem) (before : List Bytes) (firsts : List D) (replicas : List (Named D)) (name : Bytes) (rest : List Bytes) (disk : D) (left : List D) (why : RunStop) (failed : Type 0)
-        → AreOpened sense good policy digest before firsts replicas → length firsts ≡ length before
-        → IsStopFor ⊥ failed (λ told cause. (told ≡ name) × IsRefused sense good (criteria sense good policy digest) disk cause) why
-        → IsWhyNot sense good policy digest (before ++ name ∷ rest) (firsts ++ disk ∷ left) why
+        → AreOpened view good policy digest before firsts replicas → length firsts ≡ length before
+        → IsStopFor ⊥ failed (λ told cause. (told ≡ name) × IsRefused view good (criteria view good policy digest) disk cause) why
+        → IsWhyNot view good policy digest (before ++ name ∷ rest) (firsts ++ disk ∷ left) why
     why_not policy before firsts replicas name rest disk left stop.DiskFault failed opened same cause = tt
     why_not policy before firsts replicas name rest disk left stop.SealFault failed opened same cause = cause
     why_not policy before firsts replicas name rest disk left (stop.Journal told fault) failed opened same cause =
-        refuses_behind sense good policy digest before firsts replicas name rest disk left told fault opened same cause.0 cause.1
+        refuses_behind view good policy digest before firsts replicas name rest disk left told fault opened same cause.0 cause.1
     why_not policy before firsts replicas name rest disk left stop.NoMemory failed opened same cause = tt
 
     why_cause : (firsts news : List D) (disk back : D) (left : List D) (why : RunStop) (refused : List ℕ → OpenFault → Type 0) → NoneFell faults firsts news
@@ -325,71 +325,71 @@ module _ {D : Type 0} (sense : Sense D) (good : List ℕ → List ℕ → List �
     why_cause firsts news disk back left stop.NoMemory refused pairs cause = tt
 
     module _ (room wide : ℕ) (replicas : List (Named D)) (runner : A) (runners : List A) (name : Bytes) (rest : List Bytes) (disk : D) (left : List D) (why : RunStop) (back : D)
-        (so : OpensSoFar sense good faults digest rules all names disks room wide replicas (runner ∷ runners) (name ∷ rest) (disk ∷ left)) (isnt : IsNotOpened sense good faults (rules runner) digest name disk why back) where
-      counts_back : AreBack sense good faults names disks why (map (λ r. r.kept.disk) replicas ++ back ∷ left)
+        (so : OpensSoFar view good faults digest rules all names disks room wide replicas (runner ∷ runners) (name ∷ rest) (disk ∷ left)) (isnt : IsNotOpened view good faults (rules runner) digest name disk why back) where
+      counts_back : AreBack view good faults names disks why (map (λ r. r.kept.disk) replicas ++ back ∷ left)
       counts_back = record {
         cause = subst (λ ds. HasCause 0 0 faults ds (map (λ r. r.kept.disk) replicas ++ back ∷ left) why) so.taken
-            (why_cause so.firsts (map (λ (r : Named D). r.kept.disk) replicas) disk back left why (λ told cause. (told ≡ name) × IsRefused sense good (criteria sense good (rules runner) digest) disk cause) so.none_fell isnt.cause);
+            (why_cause so.firsts (map (λ (r : Named D). r.kept.disk) replicas) disk back left why (λ told cause. (told ≡ name) × IsRefused view good (criteria view good (rules runner) digest) disk cause) so.none_fell isnt.cause);
         none_fell = subst (λ ds. NoneFell faults ds (map (λ r. r.kept.disk) replicas ++ back ∷ left)) so.taken
             (pairs_on (λ (d e : D). faults d ≤ faults e) so.firsts (map (λ (r : Named D). r.kept.disk) replicas) (disk ∷ left) (back ∷ left) so.none_fell (isnt.disk_then.later, none_fell_same faults left));
         beyond = subst (λ (ns : List Bytes). drop (length ns) (map (λ r. r.kept.disk) replicas ++ back ∷ left) ≡ drop (length ns) disks) so.named
             (subst (λ ds. drop (length (so.before ++ name ∷ rest)) (map (λ r. r.kept.disk) replicas ++ back ∷ left) ≡ drop (length (so.before ++ name ∷ rest)) ds) so.taken
             (swapped so.before rest (map (λ (r : Named D). r.kept.disk) replicas) so.firsts left name back disk (pairs_length (λ (d e : D). faults d ≤ faults e) so.firsts (map (λ (r : Named D). r.kept.disk) replicas) so.none_fell ∙ so.paired) so.paired));
-        as_honest = subst (λ ds. AreAsHonest sense.honest ds (map (λ r. r.kept.disk) replicas ++ back ∷ left)) so.taken
-            (pairs_on (λ (d e : D). sense.honest e ≡ sense.honest d) so.firsts (map (λ (r : Named D). r.kept.disk) replicas) (disk ∷ left) (back ∷ left) so.as_honest (isnt.disk_then.as_honest, honest_same sense.honest left));
+        as_honest = subst (λ ds. AreAsHonest view.honest ds (map (λ r. r.kept.disk) replicas ++ back ∷ left)) so.taken
+            (pairs_on (λ (d e : D). view.honest e ≡ view.honest d) so.firsts (map (λ (r : Named D). r.kept.disk) replicas) (disk ∷ left) (back ∷ left) so.as_honest (isnt.disk_then.as_honest, honest_same view.honest left));
       }
 
-      handed_back : (policy : List PlacedItem) → OpenedSoFar sense good faults digest rules policy (runner ∷ runners) so.before so.firsts replicas → IsNotOpened sense good faults policy digest name disk why back
-          → AreHandedBack sense good faults policy digest names disks why (map (λ r. r.kept.disk) replicas ++ back ∷ left)
+      handed_back : (policy : List PlacedItem) → OpenedSoFar view good faults digest rules policy (runner ∷ runners) so.before so.firsts replicas → IsNotOpened view good faults policy digest name disk why back
+          → AreHandedBack view good faults policy digest names disks why (map (λ r. r.kept.disk) replicas ++ back ∷ left)
       handed_back policy told isnt = record {
-        why_not = subst (λ ns. IsWhyNot sense good policy digest ns disks why) so.named
-            (subst (λ ds. IsWhyNot sense good policy digest (so.before ++ name ∷ rest) ds why) so.taken
+        why_not = subst (λ ns. IsWhyNot view good policy digest ns disks why) so.named
+            (subst (λ ds. IsWhyNot view good policy digest (so.before ++ name ∷ rest) ds why) so.taken
             (why_not policy so.before so.firsts replicas name rest disk left why (Rose (faults disk) (faults back)) told.opened so.paired isnt.cause));
         failed = λ is.
-            subst (λ ns. FailsFirst sense good policy digest faults ns disks (map (λ r. r.kept.disk) replicas ++ back ∷ left)) so.named
-            (subst (λ ds. FailsFirst sense good policy digest faults (so.before ++ name ∷ rest) ds (map (λ r. r.kept.disk) replicas ++ back ∷ left)) so.taken
-            (fails_behind sense good policy digest faults so.before so.firsts replicas name rest disk back left told.opened so.paired
-            (subst (IsStopFor ⊥ (Rose (faults disk) (faults back)) (λ told cause. (told ≡ name) × IsRefused sense good (criteria sense good policy digest) disk cause)) is isnt.cause)));
+            subst (λ ns. FailsFirst view good policy digest faults ns disks (map (λ r. r.kept.disk) replicas ++ back ∷ left)) so.named
+            (subst (λ ds. FailsFirst view good policy digest faults (so.before ++ name ∷ rest) ds (map (λ r. r.kept.disk) replicas ++ back ∷ left)) so.taken
+            (fails_behind view good policy digest faults so.before so.firsts replicas name rest disk back left told.opened so.paired
+            (subst (IsStopFor ⊥ (Rose (faults disk) (faults back)) (λ told cause. (told ≡ name) × IsRefused view good (criteria view good policy digest) disk cause)) is isnt.cause)));
         crash = λ tells honest.
-            let each = subst (λ ds. AllHonest sense ds) (sym so.taken) honest in
-            let those = told.crash tells (each_front (λ (d : D). IsTrue (sense.honest d)) so.firsts (disk ∷ left) each) in
-            let this : IsTrue (sense.honest disk) = (each_behind (λ (d : D). IsTrue (sense.honest d)) so.firsts (disk ∷ left) each).0 in
-            subst (λ ds. OpenWhole sense good policy digest ds (map (λ r. r.kept.disk) replicas ++ back ∷ left)) so.taken
-            (pairs_on (λ (d e : D). OpensWhole digest (sense.content d) (sense.content e)) so.firsts (map (λ (r : Named D). r.kept.disk) replicas) (disk ∷ left) (back ∷ left) those.0
-            (isnt.disk_then.whole tells this, still_whole sense good policy digest left));
+            let each = subst (λ ds. AllHonest view ds) (sym so.taken) honest in
+            let those = told.crash tells (each_front (λ (d : D). IsTrue (view.honest d)) so.firsts (disk ∷ left) each) in
+            let this : IsTrue (view.honest disk) = (each_behind (λ (d : D). IsTrue (view.honest d)) so.firsts (disk ∷ left) each).0 in
+            subst (λ ds. OpenWhole view good policy digest ds (map (λ r. r.kept.disk) replicas ++ back ∷ left)) so.taken
+            (pairs_on (λ (d e : D). OpensWhole digest (view.content d) (view.content e)) so.firsts (map (λ (r : Named D). r.kept.disk) replicas) (disk ∷ left) (back ∷ left) those.0
+            (isnt.disk_then.whole tells this, still_whole view good policy digest left));
       }
 
-      handed_under : (policy : List PlacedItem) → All (λ r. rules r ≡ policy) all → AreHandedBack sense good faults policy digest names disks why (map (λ r. r.kept.disk) replicas ++ back ∷ left)
+      handed_under : (policy : List PlacedItem) → All (λ r. rules r ≡ policy) all → AreHandedBack view good faults policy digest names disks why (map (λ r. r.kept.disk) replicas ++ back ∷ left)
       handed_under policy each =
           let told = so.told policy each in
-          handed_back policy told (subst (λ p. IsNotOpened sense good faults p digest name disk why back) (All-head (λ x. rules x ≡ policy) runner runners told.left) isnt)
+          handed_back policy told (subst (λ p. IsNotOpened view good faults p digest name disk why back) (All-head (λ x. rules x ≡ policy) runner runners told.left) isnt)
 
       module _ (put spared : List D) (is : put ≡ map (λ r. r.kept.disk) replicas ++ spared) (first : spared ≡ back ∷ left) where
         put_is : put ≡ map (λ r. r.kept.disk) replicas ++ back ∷ left
         put_is = is ∙ ap (λ ds. map (λ (r : Named D). r.kept.disk) replicas ++ ds) first
 
-        pub counts_put : AreBack sense good faults names disks why put
-        counts_put = subst (AreBack sense good faults names disks why) (sym put_is) counts_back
+        pub counts_put : AreBack view good faults names disks why put
+        counts_put = subst (AreBack view good faults names disks why) (sym put_is) counts_back
 
-        pub handed_put : (policy : List PlacedItem) → All (λ r. rules r ≡ policy) all → AreHandedBack sense good faults policy digest names disks why put
-        handed_put policy each = subst (AreHandedBack sense good faults policy digest names disks why) (sym put_is) (handed_under policy each)
+        pub handed_put : (policy : List PlacedItem) → All (λ r. rules r ≡ policy) all → AreHandedBack view good faults policy digest names disks why put
+        handed_put policy each = subst (AreHandedBack view good faults policy digest names disks why) (sym put_is) (handed_under policy each)
 
-module _ {D : Type 0} (sense : Sense D) (good : List ℕ → List ℕ → List ℕ → Bool) (faults : D → ℕ) (disks : List D) where
+module _ {D : Type 0} (view : DiskView D) (good : List ℕ → List ℕ → List ℕ → Bool) (faults : D → ℕ) (disks : List D) where
   -- nothing was begun
-  pub back_untouched : (policy : List PlacedItem) (digest : List ℕ) (names : List Bytes) → AreHandedBack sense good faults policy digest names disks stop.NoMemory disks
-  back_untouched policy digest names = record { why_not = tt; failed = λ is. absurd cc; crash = λ tells honest. still_whole sense good policy digest disks }
+  pub back_untouched : (policy : List PlacedItem) (digest : List ℕ) (names : List Bytes) → AreHandedBack view good faults policy digest names disks stop.NoMemory disks
+  back_untouched policy digest names = record { why_not = tt; failed = λ is. absurd cc; crash = λ tells honest. still_whole view good policy digest disks }
 
-  pub counts_untouched : (names : List Bytes) → AreBack sense good faults names disks stop.NoMemory disks
-  counts_untouched names = record { cause = tt; beyond = refl; none_fell = none_fell_same faults disks; as_honest = honest_same sense.honest disks }
+  pub counts_untouched : (names : List Bytes) → AreBack view good faults names disks stop.NoMemory disks
+  counts_untouched names = record { cause = tt; beyond = refl; none_fell = none_fell_same faults disks; as_honest = honest_same view.honest disks }
 
 -- ---- the world
 
-module _ {D : Type 0} (sense : Sense D) (good : List ℕ → List ℕ → List ℕ → Bool) (faults : D → ℕ) (policy : List PlacedItem) (digest : List ℕ) (names : List Bytes) (disks : List D) (replicas : List (Named D)) (spare : List D) where
+module _ {D : Type 0} (view : DiskView D) (good : List ℕ → List ℕ → List ℕ → Bool) (faults : D → ℕ) (policy : List PlacedItem) (digest : List ℕ) (names : List Bytes) (disks : List D) (replicas : List (Named D)) (spare : List D) where
   -- what was opened is a world as a run begins
-  pub opened_as : (messages : List (Option (List ℕ))) → AreAllOpened sense good faults policy digest names disks replicas spare → AreAllUp sense good faults names disks replicas spare → messages ≡ []
-      → IsOpenedOn sense good policy digest names disks (record { replicas = replicas; messages = messages; spare = spare })
+  pub opened_as : (messages : List (Option (List ℕ))) → AreAllOpened view good faults policy digest names disks replicas spare → AreAllUp view good faults names disks replicas spare → messages ≡ []
+      → IsOpenedOn view good policy digest names disks (record { replicas = replicas; messages = messages; spare = spare })
   opened_as messages opened up none = record { replicas = opened.opened; none = none; spare = up.behind }
 
-  pub opened_safe : AreAllOpened sense good faults policy digest names disks replicas spare → IsTrue sense.tells → AllHonest sense disks
-      → OpenWhole sense good policy digest disks (map (λ r. r.kept.disk) replicas ++ spare) × AreSafe sense good replicas
-  opened_safe opened tells honest = let those = opened.crash tells honest in (those.0, are_safe sense good replicas those.1)
+  pub opened_safe : AreAllOpened view good faults policy digest names disks replicas spare → IsTrue view.tells → AllHonest view disks
+      → OpenWhole view good policy digest disks (map (λ r. r.kept.disk) replicas ++ spare) × AreSafe view good replicas
+  opened_safe opened tells honest = let those = opened.crash tells honest in (those.0, are_safe view good replicas those.1)

@@ -6,7 +6,8 @@ use Rattle.journal.specs.declared.fault.OpenFault.{OpenFault}
 use Rattle.outside.specs.Causes.{Rose}
 use Rattle.outside.specs.declared.faults.DiskStep.{DiskStep}
 use Rattle.replica.specs.Calls.{IsRefusedJournal, Restarts, StaysAtRestart, restart_opens}
-use Rattle.replica.specs.Disks.{IsTrusted, MayOpenTo, OpensToOf, Sense}
+use Rattle.replica.specs.Disks.{IsTrusted, MayOpenTo, OpensToOf}
+use Rattle.outside.specs.Disk.{DiskView}
 use Rattle.replica.specs.Fronts.{AnswersOpening, Front, OpensAs, Opens, front_of}
 use Rattle.replica.specs.Kept.{Kept, criteria_of, loose_of}
 use Rattle.replica.specs.declared.refusal.Refusal.{Refusal}
@@ -61,8 +62,8 @@ module _ {D : Type 0} (before after : Kept D) (up : before.down ≡ None) where
         counted ∙ ap (λ h. length h.commands) own,
       )
 
-module _ {D : Type 0} (sense : Sense D) (good : List ℕ → List ℕ → List ℕ → Bool) (faults : D → ℕ) (name : Bytes) (reply : Result ℕ Refusal) (old : List (Named D)) (new : List (Named D)) (up : AreUp old)
-    (changes : Changes old name (λ before after. RestartsOn sense good faults before after reply) new) where
+module _ {D : Type 0} (view : DiskView D) (good : List ℕ → List ℕ → List ℕ → Bool) (faults : D → ℕ) (name : Bytes) (reply : Result ℕ Refusal) (old : List (Named D)) (new : List (Named D)) (up : AreUp old)
+    (changes : Changes old name (λ before after. RestartsOn view good faults before after reply) new) where
   abbrev before : Kept D
   before = changes.0
 
@@ -72,14 +73,14 @@ module _ {D : Type 0} (sense : Sense D) (good : List ℕ → List ℕ → List �
   own : before.down ≡ None
   own = up_of old name before up changes.2
 
-  restarts : RestartsOn sense good faults before after reply
+  restarts : RestartsOn view good faults before after reply
   restarts = changes.3
 
   set : new ≡ with_kept old name after
   set = changes.4
 
-  trusted_of : Of old name (IsTrusted good sense) → IsTrusted good sense before
-  trusted_of (kept, is, trusted) = subst (IsTrusted good sense) (same_Some kept before (sym is ∙ changes.2)) trusted
+  trusted_of : Of old name (IsTrusted good view) → IsTrusted good view before
+  trusted_of (kept, is, trusted) = subst (IsTrusted good view) (same_Some kept before (sym is ∙ changes.2)) trusted
 
   alike_old : after ≡ record before { down = after.down; disk = after.disk; outline = after.outline } → AreAlike old new
   alike_old same = subst (AreAlike old) (sym set) (alike_at old name before after changes.2 same)
@@ -102,7 +103,7 @@ module _ {D : Type 0} (sense : Sense D) (good : List ℕ → List ℕ → List �
   by_reply (Ok count) result runs stays words = ok_line count result runs stays words
   by_reply (Err why) result runs stays words = err_line why result runs words
 
-  pub restart_changes : (result : Result Bytes RunStop) → RestartWords name reply result → Of old name (IsTrusted good sense) → Changing (RunsRestart name) NoneOf old result new
+  pub restart_changes : (result : Result Bytes RunStop) → RestartWords name reply result → Of old name (IsTrusted good view) → Changing (RunsRestart name) NoneOf old result new
   restart_changes result words trusted = by_reply reply result restarts.restarts (restarts.stays (trusted_of trusted)) words
 
   -- ---- what becomes of the disk
@@ -110,14 +111,14 @@ module _ {D : Type 0} (sense : Sense D) (good : List ℕ → List ℕ → List �
   abbrev reached : List (Named D) → Type 0
   reached = FrontOf (RunsRestart name) NoneOf old
 
-  fares : Fares sense good faults reached old name before after
+  fares : Fares view good faults reached old name before after
   fares = record {
     later = restarts.treats.later;
     as_honest = restarts.treats.as_honest;
     crash = λ safe.
         let w = restarts.treats.crash safe.0 in (
           (w.trusted, w.survives),
-          leaves_more (sense.content before.disk) (sense.content after.disk) (λ image. OpensToOf good sense before image ⊎ OpensToOf good sense after image)
+          leaves_more (view.content before.disk) (view.content after.disk) (λ image. OpensToOf good view before image ⊎ OpensToOf good view after image)
               (λ image. (f : Front) × Reaches good reached old name before f × OpensAs (criteria_of good before) image (Opens f)) (λ image opens. to safe.0 image opens) w.moments,
         );
   }
@@ -125,7 +126,7 @@ module _ {D : Type 0} (sense : Sense D) (good : List ℕ → List ℕ → List �
       reaches : (f : Front) → f ≡ front_of before.held → Reaches good reached old name before f
       reaches f same = record { kept = before; there = subst reached (sym (unchanged old name before changes.2)) (inl refl); judged = refl; holds = sym same }
 
-      to : IsTrusted good sense before → (image : List ℕ) → OpensToOf good sense before image ⊎ OpensToOf good sense after image
+      to : IsTrusted good view before → (image : List ℕ) → OpensToOf good view before image ⊎ OpensToOf good view after image
           → (f : Front) × Reaches good reached old name before f × OpensAs (criteria_of good before) image (Opens f)
       to trusted image (inl (f, may, opens)) = (f, reaches f (open_front before f own may), opens)
       to trusted image (inr (f, may, opens)) = (
@@ -135,31 +136,31 @@ module _ {D : Type 0} (sense : Sense D) (good : List ℕ → List ℕ → List �
       )
 
   -- its calls, as those of a reply that refuses no journal
-  weathers : Weathers sense good faults {T = ℕ} ⊥ reached old name (Err refusal.NoMemory) new ⊎ ((step : DiskStep) × Weathers sense good faults {T = ℕ} ⊥ reached old name (Err (refusal.DiskFault step)) new)
+  weathers : Weathers view good faults {T = ℕ} ⊥ reached old name (Err refusal.NoMemory) new ⊎ ((step : DiskStep) × Weathers view good faults {T = ℕ} ⊥ reached old name (Err (refusal.DiskFault step)) new)
   weathers = by reply restarts.restarts restarts.treats.cause
     where
-      plain : after.down ≡ None → Weathers sense good faults {T = ℕ} ⊥ reached old name (Err refusal.NoMemory) new
+      plain : after.down ≡ None → Weathers view good faults {T = ℕ} ⊥ reached old name (Err refusal.NoMemory) new
       plain down = record { before = before; after = after; is = changes.2; set = set; up = inl down; cause = tt; fares = fares }
 
       by : (r : Result ℕ Refusal) → Restarts before r after → (IsDiskFault r → Rose (faults before.disk) (faults after.disk))
-          → Weathers sense good faults {T = ℕ} ⊥ reached old name (Err refusal.NoMemory) new ⊎ ((step : DiskStep) × Weathers sense good faults {T = ℕ} ⊥ reached old name (Err (refusal.DiskFault step)) new)
+          → Weathers view good faults {T = ℕ} ⊥ reached old name (Err refusal.NoMemory) new ⊎ ((step : DiskStep) × Weathers view good faults {T = ℕ} ⊥ reached old name (Err (refusal.DiskFault step)) new)
       by (Ok count) (held, counted, run, is) rose = inl (plain (ap (λ (k : Kept D). k.down) is.same))
       by (Err why) (inl (because, same)) rose = inl (plain (ap (λ (k : Kept D). k.down) same ∙ own))
       by (Err why) (inr (step, is, same)) rose = inr (step, record { before = before; after = after; is = changes.2; set = set; up = inr (step, refl); cause = (rose (step, ap Err is), subst (λ (k : Kept D). IsSome k.down) (sym same) refl); fares = fares })
 
   -- disks and crashes, whatever is printed
-  without_words : Handles sense good faults {T = Bytes} ⊥ (Some name) NoJournal reached old (Err stop.NoMemory) new
+  without_words : Handles view good faults {T = Bytes} ⊥ (Some name) NoJournal reached old (Err stop.NoMemory) new
   without_words = by weathers
     where
-      by : Weathers sense good faults {T = ℕ} ⊥ reached old name (Err refusal.NoMemory) new ⊎ ((step : DiskStep) × Weathers sense good faults {T = ℕ} ⊥ reached old name (Err (refusal.DiskFault step)) new)
-          → Handles sense good faults {T = Bytes} ⊥ (Some name) NoJournal reached old (Err stop.NoMemory) new
-      by (inl w) = handles sense good reached faults ⊥ old name (Err refusal.NoMemory) new up (inl refl) w NoJournal None (Err stop.NoMemory) (λ fell. refl) (inl refl)
-      by (inr (step, w)) = handles sense good reached faults ⊥ old name (Err (refusal.DiskFault step)) new up (inl refl) w NoJournal None (Err stop.NoMemory) (λ fell. refl) (inl refl)
+      by : Weathers view good faults {T = ℕ} ⊥ reached old name (Err refusal.NoMemory) new ⊎ ((step : DiskStep) × Weathers view good faults {T = ℕ} ⊥ reached old name (Err (refusal.DiskFault step)) new)
+          → Handles view good faults {T = Bytes} ⊥ (Some name) NoJournal reached old (Err stop.NoMemory) new
+      by (inl w) = handles view good reached faults ⊥ old name (Err refusal.NoMemory) new up (inl refl) w NoJournal None (Err stop.NoMemory) (λ fell. refl) (inl refl)
+      by (inr (step, w)) = handles view good reached faults ⊥ old name (Err (refusal.DiskFault step)) new up (inl refl) w NoJournal None (Err stop.NoMemory) (λ fell. refl) (inl refl)
 
   abbrev causes : RunStop → Type 0
-  causes s = IsStopFor ⊥ (Fell faults (Some name) old new) (RefusesAt sense good old name) s
+  causes s = IsStopFor ⊥ (Fell faults (Some name) old new) (RefusesAt view good old name) s
 
-  refuses_journal : (cause : OpenFault) → IsRefusedJournal cause → reply ≡ Err (refusal.Journal cause) → RefusesAt sense good old name name cause
+  refuses_journal : (cause : OpenFault) → IsRefusedJournal cause → reply ≡ Err (refusal.Journal cause) → RefusesAt view good old name name cause
   refuses_journal cause refused is = (
     refl,
     refused,
@@ -167,7 +168,7 @@ module _ {D : Type 0} (sense : Sense D) (good : List ℕ → List ℕ → List �
       before,
       changes.2,
       (
-        λ tells. subst (λ r. AnswersOpening (criteria_of good before) (sense.content before.disk).reads (restart_opens r after)) is (restarts.opens tells),
+        λ tells. subst (λ r. AnswersOpening (criteria_of good before) (view.content before.disk).reads (restart_opens r after)) is (restarts.opens tells),
         λ trusted. subst (λ r. StaysAtRestart before r after) is (restarts.stays trusted) cause refl,
       ),
     ),
@@ -194,7 +195,7 @@ module _ {D : Type 0} (sense : Sense D) (good : List ℕ → List ℕ → List �
   up_by (Ok count) (Ok text) (held, counted, run, is) words = subst AreUp (sym set) (stay_up old name after up (ap (λ (k : Kept D). k.down) is.same))
   up_by (Err why) (Ok text) runs words = absurd words
 
-  pub restart_handles : (result : Result Bytes RunStop) → RestartWords name reply result → Handles sense good faults ⊥ (Some name) (RefusesAt sense good old name) (FrontOf (RunsRestart name) NoneOf old) old result new
+  pub restart_handles : (result : Result Bytes RunStop) → RestartWords name reply result → Handles view good faults ⊥ (Some name) (RefusesAt view good old name) (FrontOf (RunsRestart name) NoneOf old) old result new
   restart_handles result words = record {
     later = without_words.later;
     up = up_by reply result restarts.restarts words;

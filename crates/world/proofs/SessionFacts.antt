@@ -7,7 +7,7 @@ use Rattle.braid_run.specs.States.{Held}
 use Rattle.outside.specs.Causes.{Rose}
 use Rattle.outside.specs.declared.faults.DiskStep.{DiskStep}
 use Rattle.replica.specs.Calls.{Answers, Asks, AsksNext, IsTakeOf, TakesIn}
-use Rattle.replica.specs.Disks.{Sense}
+use Rattle.outside.specs.Disk.{DiskView}
 use Rattle.replica.specs.Kept.{Kept, criteria_of}
 use Rattle.replica.specs.Messages.{IsResponseRead}
 use Rattle.replica.specs.declared.counts.Taken.{Taken}
@@ -19,7 +19,8 @@ use Rattle.sync_codec.specs.Messages.{IsRequest, IsResponse}
 use Rattle.sync_codec.specs.declared.response.Response.{Response}
 use Rattle.transaction.specs.declared.fault.ActFault.{ActFault}
 use Rattle.transaction.specs.declared.fault.ActFault.TheVariants as fault
-use Rattle.world.specs.Lines.{RunsSync, Tags}
+use Rattle.world.specs.Lines.{RunsSync}
+use Rattle.outside.specs.Envelope.{EnvelopeView}
 use Rattle.world.specs.Reasons.{line_refusal}
 use Rattle.world.specs.Sessions.{Goes, IsHalfRound, IsRound, Session, Sum, no_sum, synced_line, synced_lines, with_taken}
 use Rattle.world.specs.Sessions.Goes.{begins, more}
@@ -45,23 +46,23 @@ rose_on b m n later rose =
     let less : min (b + 1) (2 ^ 64 - 1) ≤ min (m + 1) (2 ^ 64 - 1) = le-min (omega (arith, later, min-le_left (b + 1) (2 ^ 64 - 1))) (min-le_right (b + 1) (2 ^ 64 - 1)) in
     omega (arith, less, rose)
 
-module _ {D : Type 0} (sense : Sense D) (faults : D → ℕ) (tags : Tags) (a b : Bytes) where
+module _ {D : Type 0} (view : DiskView D) (faults : D → ℕ) (tags : EnvelopeView) (a b : Bytes) where
   -- ---- a round, by its events
 
-  pub unanswered : (old rs : List (Named D)) (request : Bytes) (why : Refusal) → rs ≡ old → Of rs b (λ kept. Answers kept request (Err why)) → GoesRound sense tags.good faults a b old request (Err why) old
+  pub unanswered : (old rs : List (Named D)) (request : Bytes) (why : Refusal) → rs ≡ old → Of rs b (λ kept. Answers kept request (Err why)) → GoesRound view tags.good faults a b old request (Err why) old
   unanswered old rs request why same refused = inl (refl, subst (λ l. Of l b (λ kept. Answers kept request (Err why))) same refused)
 
   pub takes_answer : (old rs new : List (Named D)) (request response bytes : Bytes) (reply : Result Taken Refusal) → rs ≡ old → Of rs b (λ kept. Answers kept request (Ok response)) → bytes ≡ response
-      → Changes old a (λ before after. TakesIn before tags.good bytes reply after × Treats sense tags.good faults before after reply) new → TakesAnswer sense tags.good faults a b old request reply new
+      → Changes old a (λ before after. TakesIn before tags.good bytes reply after × Treats view tags.good faults before after reply) new → TakesAnswer view tags.good faults a b old request reply new
   takes_answer old rs new request response bytes reply same answered spelled takes = record {
     response = response;
     answer = subst (λ l. Of l b (λ kept. Answers kept request (Ok response))) same answered;
-    take = subst (λ m. Changes old a (λ before after. TakesIn before tags.good m reply after × Treats sense tags.good faults before after reply) new) spelled takes;
+    take = subst (λ m. Changes old a (λ before after. TakesIn before tags.good m reply after × Treats view tags.good faults before after reply) new) spelled takes;
   }
 
   pub takes_and_asks : (old rs new us : List (Named D)) (request response bytes : Bytes) (taken : Taken) (next : Result (Option Bytes) Refusal) → rs ≡ old → Of rs b (λ kept. Answers kept request (Ok response)) → bytes ≡ response
-      → Changes old a (λ before after. TakesIn before tags.good bytes (Ok taken) after × Treats sense tags.good faults {T = Taken} before after (Ok taken)) new → us ≡ new → Of us a (λ kept. AsksNext kept bytes next)
-      → TakesAndAsks sense tags.good faults a b old request taken next new
+      → Changes old a (λ before after. TakesIn before tags.good bytes (Ok taken) after × Treats view tags.good faults {T = Taken} before after (Ok taken)) new → us ≡ new → Of us a (λ kept. AsksNext kept bytes next)
+      → TakesAndAsks view tags.good faults a b old request taken next new
   unfolding takes_answer
   takes_and_asks old rs new us request response bytes taken next same answered spelled takes stays asks = record {
     takes = takes_answer old rs new request response bytes (Ok taken) same answered spelled takes;
@@ -87,7 +88,7 @@ module _ {D : Type 0} (sense : Sense D) (faults : D → ℕ) (tags : Tags) (a b 
     pub set : old ≡ with_kept first a now
     pub up : now.down ≡ None
     pub judged : criteria_of tags.good now ≡ criteria_of tags.good before
-    pub fares : Fares sense tags.good faults (ReachedBy first) first a before now
+    pub fares : Fares view tags.good faults (ReachedBy first) first a before now
 
   begun : (first : List (Named D)) (request : Bytes) → AreUp first → Of first a (λ kept. Asks kept (Ok request)) → is_named first a ≡ true → is_named first b ≡ true → HasCome first first request no_sum
   begun first request up (kept, is, asks) a_there b_there =
@@ -103,7 +104,7 @@ module _ {D : Type 0} (sense : Sense D) (faults : D → ℕ) (tags : Tags) (a b 
         set = sym (unchanged first a kept is);
         up = own;
         judged = refl;
-        fares = fares_still sense tags.good faults (ReachedBy first) first a kept is own (inl refl);
+        fares = fares_still view tags.good faults (ReachedBy first) first a kept is own (inl refl);
       }
 
   pub starts : (first rs : List (Named D)) (request : Bytes) (sum : Sum) → rs ≡ first → AreUp first → Of rs a (λ kept. Asks kept (Ok request)) → sum ≡ no_sum → is_named first a ≡ true → is_named first b ≡ true → HasCome first first request sum
@@ -118,7 +119,7 @@ module _ {D : Type 0} (sense : Sense D) (faults : D → ℕ) (tags : Tags) (a b 
     pub judged : criteria_of tags.good after ≡ criteria_of tags.good before
     pub up : (after.down ≡ None) ⊎ IsDiskFault reply
     pub cause : IfErr reply (IsCausedBy ⊥ (Falls faults before after))
-    pub fares : Fares sense tags.good faults (ReachedBy first) first a before after
+    pub fares : Fares view tags.good faults (ReachedBy first) first a before after
 
   module _ (first old : List (Named D)) (request : Bytes) (sum : Sum) (come : HasCome first old request sum) where
     at_now : kept_of old a ≡ Some come.now
@@ -150,8 +151,8 @@ module _ {D : Type 0} (sense : Sense D) (faults : D → ℕ) (tags : Tags) (a b 
     further_cause after (Err (refusal.Journal cause)) later is = is
     further_cause after (Err refusal.NoMemory) later is = tt
 
-    takes_on : (new : List (Named D)) (reply : Result Taken Refusal) (t : TakesAnswer sense tags.good faults a b old request reply new) (after : Kept D) → new ≡ with_kept old a after
-        → TakesIn come.now tags.good t.response reply after → Treats sense tags.good faults come.now after reply → HasTaken first old new come.before come.now reply
+    takes_on : (new : List (Named D)) (reply : Result Taken Refusal) (t : TakesAnswer view tags.good faults a b old request reply new) (after : Kept D) → new ≡ with_kept old a after
+        → TakesIn come.now tags.good t.response reply after → Treats view tags.good faults come.now after reply → HasTaken first old new come.before come.now reply
     takes_on new reply t after set step treats = record {
       after = after;
       set = set ∙ ap (λ l. with_kept l a after) come.set ∙ set_twice first a come.now after;
@@ -166,8 +167,8 @@ module _ {D : Type 0} (sense : Sense D) (faults : D → ℕ) (tags : Tags) (a b 
                 (λ why is read. mild_caused ⊥ ⊥ why (read_mild _ _ t.response come.now.held.graph_id why read)) step fell,
           ))
           (λ why is read. mild_caused ⊥ (Falls faults come.now after) why (read_mild _ _ t.response come.now.held.graph_id why read)) step);
-      fares = fares_on sense tags.good faults (ReachedBy first) first old a come.before come.now after come.set come.judged come.fares
-          (fares_step sense tags.good faults (ReachedBy first) (IsTakeOf come.now tags.good t.response) (λ why. IsResponseRead t.response come.now.held.graph_id (Err why)) old a come.now after reply at_now come.up
+      fares = fares_on view tags.good faults (ReachedBy first) first old a come.before come.now after come.set come.judged come.fares
+          (fares_step view tags.good faults (ReachedBy first) (IsTakeOf come.now tags.good t.response) (λ why. IsResponseRead t.response come.now.held.graph_id (Err why)) old a come.now after reply at_now come.up
           (inr (inr (inl (request, sum, come.goes)))) (λ r held given. inr (inr (inr (old, request, sum, r, come.goes, half r held given)))) step treats);
     }
       where
@@ -178,24 +179,24 @@ module _ {D : Type 0} (sense : Sense D) (faults : D → ℕ) (tags : Tags) (a b 
           take = (come.now, record come.now { held = held; down = None }, at_now, (come.up, (held, given, record { same = refl; still = λ front. refl })), refl);
         }
 
-    pub has_taken : (new : List (Named D)) (reply : Result Taken Refusal) → TakesAnswer sense tags.good faults a b old request reply new → HasTaken first old new come.before come.now reply
+    pub has_taken : (new : List (Named D)) (reply : Result Taken Refusal) → TakesAnswer view tags.good faults a b old request reply new → HasTaken first old new come.before come.now reply
     has_taken new reply t = by t.take
       where
-        by : Changes old a (λ before after. TakesIn before tags.good t.response reply after × Treats sense tags.good faults before after reply) new → HasTaken first old new come.before come.now reply
+        by : Changes old a (λ before after. TakesIn before tags.good t.response reply after × Treats view tags.good faults before after reply) new → HasTaken first old new come.before come.now reply
         by (x, after, is, both, set) =
             let same : x ≡ come.now = same_Some x come.now (sym is ∙ at_now) in
-            let moved = subst (λ k. TakesIn k tags.good t.response reply after × Treats sense tags.good faults k after reply) same both in
+            let moved = subst (λ k. TakesIn k tags.good t.response reply after × Treats view tags.good faults k after reply) same both in
             takes_on new reply t after set moved.0 moved.1
 
     -- the commands of a whole take are few, and its sums small
-    meets_of : (new : List (Named D)) (taken : Taken) (t : TakesAnswer sense tags.good faults a b old request (Ok taken) new) → Meets t.response taken
+    meets_of : (new : List (Named D)) (taken : Taken) (t : TakesAnswer view tags.good faults a b old request (Ok taken) new) → Meets t.response taken
     meets_of new taken t = taken_meets tags.good t.take.0 t.take.1 t.response taken t.take.3.0
 
-    pub small_round : (new : List (Named D)) (taken : Taken) (next : Result (Option Bytes) Refusal) → TakesAndAsks sense tags.good faults a b old request taken next new → IsSmall sum taken
+    pub small_round : (new : List (Named D)) (taken : Taken) (next : Result (Option Bytes) Refusal) → TakesAndAsks view tags.good faults a b old request taken next new → IsSmall sum taken
     small_round new taken next both = small sum request both.takes.response taken come.behind (meets_of new taken both.takes)
 
     -- what the next request of a round asks for
-    further_round : (new : List (Named D)) (next : Bytes) (taken : Taken) → IsUnambiguous IsRequest → IsUnambiguous IsResponse → TakesAndAsks sense tags.good faults a b old request taken (Ok (Some next)) new → IsFurther sum (with_taken sum taken) next
+    further_round : (new : List (Named D)) (next : Bytes) (taken : Taken) → IsUnambiguous IsRequest → IsUnambiguous IsResponse → TakesAndAsks view tags.good faults a b old request taken (Ok (Some next)) new → IsFurther sum (with_taken sum taken) next
     further_round new next taken requests responses both = by both.takes.answer both.asks
       where
         by : Of old b (λ kept. Answers kept request (Ok both.takes.response)) → Of new a (λ kept. AsksNext kept both.takes.response (Ok (Some next))) → IsFurther sum (with_taken sum taken) next
@@ -207,14 +208,14 @@ module _ {D : Type 0} (sense : Sense D) (faults : D → ℕ) (tags : Tags) (a b 
             (read_form IsResponse (λ m. m.graph) both.takes.response next_of.held.graph_id again again_read)
             are
 
-    whole_round : (new : List (Named D)) (taken : Taken) (next : Result (Option Bytes) Refusal) → TakesAndAsks sense tags.good faults a b old request taken next new → IsRound tags.good a b old request taken next new
+    whole_round : (new : List (Named D)) (taken : Taken) (next : Result (Option Bytes) Refusal) → TakesAndAsks view tags.good faults a b old request taken next new → IsRound tags.good a b old request taken next new
     whole_round new taken next both = record { response = both.takes.response; answer = both.takes.answer; take = by both.takes.take; asks_next = both.asks }
       where
-        by : Changes old a (λ before after. TakesIn before tags.good both.takes.response (Ok taken) after × Treats sense tags.good faults {T = Taken} before after (Ok taken)) new
+        by : Changes old a (λ before after. TakesIn before tags.good both.takes.response (Ok taken) after × Treats view tags.good faults {T = Taken} before after (Ok taken)) new
             → Changes old a (λ before after. TakesIn before tags.good both.takes.response (Ok taken) after) new
         by (before, after, is, two, set) = (before, after, is, two.0, set)
 
-    half_round : (new : List (Named D)) (taken : Taken) (next : Result (Option Bytes) Refusal) → TakesAndAsks sense tags.good faults a b old request taken next new → IsHalfRound tags.good a b old request taken new
+    half_round : (new : List (Named D)) (taken : Taken) (next : Result (Option Bytes) Refusal) → TakesAndAsks view tags.good faults a b old request taken next new → IsHalfRound tags.good a b old request taken new
     half_round new taken next both = let r = whole_round new taken next both in record { response = r.response; answer = r.answer; take = r.take }
 
     -- a take that was done leaves A up
@@ -234,7 +235,7 @@ module _ {D : Type 0} (sense : Sense D) (faults : D → ℕ) (tags : Tags) (a b 
       pub meets_more : met_commands sum < met_commands sums
       pub most : met_commands sums ≤ 65536
 
-    goes_by : (new : List (Named D)) (next : Bytes) (taken : Taken) → IsUnambiguous IsRequest → IsUnambiguous IsResponse → TakesAndAsks sense tags.good faults a b old request taken (Ok (Some next)) new → GoesOn new next (with_taken sum taken)
+    goes_by : (new : List (Named D)) (next : Bytes) (taken : Taken) → IsUnambiguous IsRequest → IsUnambiguous IsResponse → TakesAndAsks view tags.good faults a b old request taken (Ok (Some next)) new → GoesOn new next (with_taken sum taken)
     goes_by new next taken requests responses both =
         let on = further_round new next taken requests responses both in
         let t = has_taken new (Ok taken) both.takes in
@@ -258,29 +259,29 @@ module _ {D : Type 0} (sense : Sense D) (faults : D → ℕ) (tags : Tags) (a b 
 
     -- ---- the loop of rounds
 
-    asked_as : (bytes : Bytes) (new : List (Named D)) (taken : Taken) (next : Result (Option Bytes) Refusal) → bytes ≡ request → TakesAndAsks sense tags.good faults a b old bytes taken next new
-        → TakesAndAsks sense tags.good faults a b old request taken next new
-    asked_as bytes new taken next same both = subst (λ asked. TakesAndAsks sense tags.good faults a b old asked taken next new) same both
+    asked_as : (bytes : Bytes) (new : List (Named D)) (taken : Taken) (next : Result (Option Bytes) Refusal) → bytes ≡ request → TakesAndAsks view tags.good faults a b old bytes taken next new
+        → TakesAndAsks view tags.good faults a b old request taken next new
+    asked_as bytes new taken next same both = subst (λ asked. TakesAndAsks view tags.good faults a b old asked taken next new) same both
 
-    pub small_sums : (bytes : Bytes) (new : List (Named D)) (taken : Taken) (next : Result (Option Bytes) Refusal) → bytes ≡ request → TakesAndAsks sense tags.good faults a b old bytes taken next new → IsSmall sum taken
+    pub small_sums : (bytes : Bytes) (new : List (Named D)) (taken : Taken) (next : Result (Option Bytes) Refusal) → bytes ≡ request → TakesAndAsks view tags.good faults a b old bytes taken next new → IsSmall sum taken
     small_sums bytes new taken next same both = small_round new taken next (asked_as bytes new taken next same both)
 
     pub goes_on : (bytes next : Bytes) (new : List (Named D)) (sums : Sum) (taken : Taken) (found : Option Bytes) → IsUnambiguous IsRequest → IsUnambiguous IsResponse → bytes ≡ request
-        → TakesAndAsks sense tags.good faults a b old bytes taken (Ok found) new → found ≡ Some next → sums ≡ with_taken sum taken → GoesOn new next sums
+        → TakesAndAsks view tags.good faults a b old bytes taken (Ok found) new → found ≡ Some next → sums ≡ with_taken sum taken → GoesOn new next sums
     goes_on bytes next new sums taken found requests responses same both is adds =
         subst (GoesOn new next) (sym adds)
-        (goes_by new next taken requests responses (subst (λ n. TakesAndAsks sense tags.good faults a b old request taken (Ok n) new) is (asked_as bytes new taken (Ok found) same both)))
+        (goes_by new next taken requests responses (subst (λ n. TakesAndAsks view tags.good faults a b old request taken (Ok n) new) is (asked_as bytes new taken (Ok found) same both)))
 
     -- ---- the end of a session
 
-    taken_weathers : {T : Type 0} (new : List (Named D)) (taken : Taken) (reply : Result T Refusal) → TakesAnswer sense tags.good faults a b old request (Ok taken) new
+    taken_weathers : {T : Type 0} (new : List (Named D)) (taken : Taken) (reply : Result T Refusal) → TakesAnswer view tags.good faults a b old request (Ok taken) new
         → ((after : Kept D) → new ≡ with_kept old a after → after.down ≡ None → IfErr reply (IsCausedBy ⊥ (Falls faults come.before after)))
-        → Weathers sense tags.good faults ⊥ (ReachedBy first) first a reply new
+        → Weathers view tags.good faults ⊥ (ReachedBy first) first a reply new
     taken_weathers new taken reply takes caused =
         let t = has_taken new (Ok taken) takes in
         record { before = come.before; after = t.after; is = come.is; set = t.set; up = inl (up_behind new taken t); cause = caused t.after t.here (up_behind new taken t); fares = t.fares }
 
-    next_caused : (new : List (Named D)) (taken : Taken) (why : Refusal) → TakesAndAsks sense tags.good faults a b old request taken (Err why) new → (after : Kept D) → new ≡ with_kept old a after → after.down ≡ None
+    next_caused : (new : List (Named D)) (taken : Taken) (why : Refusal) → TakesAndAsks view tags.good faults a b old request taken (Err why) new → (after : Kept D) → new ≡ with_kept old a after → after.down ≡ None
         → IsCausedBy ⊥ (Falls faults come.before after) why
     next_caused new taken why both after set up = by both.asks
       where
@@ -292,11 +293,11 @@ module _ {D : Type 0} (sense : Sense D) (faults : D → ℕ) (tags : Tags) (a b 
     answer_caused : (failed : Type 0) (why : Refusal) → AreUp old → Of old b (λ kept. Answers kept request (Err why)) → IsCausedBy ⊥ failed why
     answer_caused failed why up (kept, is, answers) = mild_caused ⊥ failed why (answers_mild kept (up_of old b kept up is) request (Err why) answers)
 
-    still_weathers : {T : Type 0} (new : List (Named D)) (reply : Result T Refusal) → new ≡ old → IfErr reply (IsCausedBy ⊥ (Falls faults come.before come.now)) → Weathers sense tags.good faults ⊥ (ReachedBy first) first a reply new
+    still_weathers : {T : Type 0} (new : List (Named D)) (reply : Result T Refusal) → new ≡ old → IfErr reply (IsCausedBy ⊥ (Falls faults come.before come.now)) → Weathers view tags.good faults ⊥ (ReachedBy first) first a reply new
     still_weathers new reply same cause =
         record { before = come.before; after = come.now; is = come.is; set = same ∙ come.set; up = inl come.up; cause = cause; fares = come.fares }
 
-    untaken_weathers : (new : List (Named D)) (why : Refusal) → TakesAnswer sense tags.good faults a b old request (Err why) new → Weathers sense tags.good faults {T = Sum} ⊥ (ReachedBy first) first a (Err why) new
+    untaken_weathers : (new : List (Named D)) (why : Refusal) → TakesAnswer view tags.good faults a b old request (Err why) new → Weathers view tags.good faults {T = Sum} ⊥ (ReachedBy first) first a (Err why) new
     untaken_weathers new why takes =
         let t = has_taken new (Err why) takes in
         record { before = come.before; after = t.after; is = come.is; set = t.set; up = fell t.after t.up; cause = t.cause; fares = t.fares }
@@ -309,13 +310,13 @@ module _ {D : Type 0} (sense : Sense D) (faults : D → ℕ) (tags : Tags) (a b 
             same_why step e = cc
 
     -- what a refused take leaves
-    untaken_runs : (new : List (Named D)) (why : Refusal) → TakesAnswer sense tags.good faults a b old request (Err why) new → RunsSession tags a b first (Err why) new
+    untaken_runs : (new : List (Named D)) (why : Refusal) → TakesAnswer view tags.good faults a b old request (Err why) new → RunsSession tags a b first (Err why) new
     untaken_runs new why t = by t.take
       where
         refused : (x after : Kept D) → kept_of old a ≡ Some x → new ≡ with_kept old a after → after ≡ x → TakesIn x tags.good t.response (Err why) x → RunsSession tags a b first (Err why) new
         refused x after is set same step = inl (subst (Session tags.good a b first (Err why)) (sym (set ∙ ap (with_kept old a) same ∙ unchanged old a x is)) (no_take come.goes t.answer (x, is, step)))
 
-        by : Changes old a (λ before after. TakesIn before tags.good t.response (Err why) after × Treats sense tags.good faults {T = Taken} before after (Err why)) new → RunsSession tags a b first (Err why) new
+        by : Changes old a (λ before after. TakesIn before tags.good t.response (Err why) after × Treats view tags.good faults {T = Taken} before after (Err why)) new → RunsSession tags a b first (Err why) new
         by (x, after, is, (inl (was, because, same), treats), set) = refused x after is set same (inl (was, because, refl))
         by (x, after, is, (inr (inr (says, same)), treats), set) = refused x after is set same (inr (inr (says, refl)))
         by (x, after, is, (inr (inl (was, (step, told, fails))), treats), set) =
@@ -330,55 +331,55 @@ module _ {D : Type 0} (sense : Sense D) (faults : D → ℕ) (tags : Tags) (a b 
               ),
             )
 
-    refused_as : (bytes : Bytes) (new : List (Named D)) (why : Refusal) → bytes ≡ request → GoesRound sense tags.good faults a b old bytes (Err why) new → GoesRound sense tags.good faults a b old request (Err why) new
-    refused_as bytes new why same went = subst (λ asked. GoesRound sense tags.good faults a b old asked (Err why) new) same went
+    refused_as : (bytes : Bytes) (new : List (Named D)) (why : Refusal) → bytes ≡ request → GoesRound view tags.good faults a b old bytes (Err why) new → GoesRound view tags.good faults a b old request (Err why) new
+    refused_as bytes new why same went = subst (λ asked. GoesRound view tags.good faults a b old asked (Err why) new) same went
 
     -- where a round is refused, the session ends
-    pub refused_round : (bytes : Bytes) (new : List (Named D)) (why : Refusal) → bytes ≡ request → GoesRound sense tags.good faults a b old bytes (Err why) new → RunsSession tags a b first (Err why) new
+    pub refused_round : (bytes : Bytes) (new : List (Named D)) (why : Refusal) → bytes ≡ request → GoesRound view tags.good faults a b old bytes (Err why) new → RunsSession tags a b first (Err why) new
     refused_round bytes new why same went = by (refused_as bytes new why same went)
       where
-        by : GoesRound sense tags.good faults a b old request (Err why) new → RunsSession tags a b first (Err why) new
+        by : GoesRound view tags.good faults a b old request (Err why) new → RunsSession tags a b first (Err why) new
         by (inl (stays, refused)) = inl (subst (Session tags.good a b first (Err why)) (sym stays) (no_answer come.goes refused))
         by (inr (inl takes)) = untaken_runs new why takes
         by (inr (inr (taken, both))) = inl (no_next come.goes (whole_round new taken (Err why) both))
 
-    pub refused_weathers : (bytes : Bytes) (new : List (Named D)) (why : Refusal) → AreUp first → bytes ≡ request → GoesRound sense tags.good faults a b old bytes (Err why) new
-        → Weathers sense tags.good faults {T = Sum} ⊥ (ReachedBy first) first a (Err why) new
+    pub refused_weathers : (bytes : Bytes) (new : List (Named D)) (why : Refusal) → AreUp first → bytes ≡ request → GoesRound view tags.good faults a b old bytes (Err why) new
+        → Weathers view tags.good faults {T = Sum} ⊥ (ReachedBy first) first a (Err why) new
     refused_weathers bytes new why up same went = by (refused_as bytes new why same went)
       where
-        by : GoesRound sense tags.good faults a b old request (Err why) new → Weathers sense tags.good faults {T = Sum} ⊥ (ReachedBy first) first a (Err why) new
+        by : GoesRound view tags.good faults a b old request (Err why) new → Weathers view tags.good faults {T = Sum} ⊥ (ReachedBy first) first a (Err why) new
         by (inl (stays, refused)) = still_weathers new (Err why) stays (answer_caused (Falls faults come.before come.now) why (subst AreUp (sym come.set) (stay_up first a come.now up come.up)) refused)
         by (inr (inl takes)) = untaken_weathers new why takes
         by (inr (inr (taken, both))) = taken_weathers new taken (Err why) both.takes (λ after set own. next_caused new taken why both after set own)
 
     -- nothing follows
-    pub finishes : (bytes : Bytes) (new : List (Named D)) (sums : Sum) (taken : Taken) (found : Option Bytes) → bytes ≡ request → TakesAndAsks sense tags.good faults a b old bytes taken (Ok found) new → found ≡ None → sums ≡ with_taken sum taken
+    pub finishes : (bytes : Bytes) (new : List (Named D)) (sums : Sum) (taken : Taken) (found : Option Bytes) → bytes ≡ request → TakesAndAsks view tags.good faults a b old bytes taken (Ok found) new → found ≡ None → sums ≡ with_taken sum taken
         → RunsSession tags a b first (Ok sums) new
     finishes bytes new sums taken found same both is adds =
-        let last : TakesAndAsks sense tags.good faults a b old request taken (Ok None) new = subst (λ n. TakesAndAsks sense tags.good faults a b old request taken (Ok n) new) is (asked_as bytes new taken (Ok found) same both) in
+        let last : TakesAndAsks view tags.good faults a b old request taken (Ok None) new = subst (λ n. TakesAndAsks view tags.good faults a b old request taken (Ok n) new) is (asked_as bytes new taken (Ok found) same both) in
         inl (subst (λ s. Session tags.good a b first (Ok s) new) (sym adds) (done come.goes (whole_round new taken (Ok None) last)))
 
-    pub finished_weathers : (bytes : Bytes) (new : List (Named D)) (sums : Sum) (taken : Taken) (next : Result (Option Bytes) Refusal) → bytes ≡ request → TakesAndAsks sense tags.good faults a b old bytes taken next new
-        → Weathers sense tags.good faults {T = Sum} ⊥ (ReachedBy first) first a (Ok sums) new
+    pub finished_weathers : (bytes : Bytes) (new : List (Named D)) (sums : Sum) (taken : Taken) (next : Result (Option Bytes) Refusal) → bytes ≡ request → TakesAndAsks view tags.good faults a b old bytes taken next new
+        → Weathers view tags.good faults {T = Sum} ⊥ (ReachedBy first) first a (Ok sums) new
     finished_weathers bytes new sums taken next same both = taken_weathers new taken (Ok sums) (asked_as bytes new taken next same both).takes (λ after set own. tt)
 
     -- the sums find no memory
-    pub unsummed : (bytes : Bytes) (new : List (Named D)) (taken : Taken) (next : Result (Option Bytes) Refusal) → bytes ≡ request → TakesAndAsks sense tags.good faults a b old bytes taken next new → RunsSession tags a b first (Err refusal.NoMemory) new
+    pub unsummed : (bytes : Bytes) (new : List (Named D)) (taken : Taken) (next : Result (Option Bytes) Refusal) → bytes ≡ request → TakesAndAsks view tags.good faults a b old bytes taken next new → RunsSession tags a b first (Err refusal.NoMemory) new
     unsummed bytes new taken next same both =
         inr (refusal.NoMemory, refl, refl, (new, inr (old, request, sum, taken, come.goes, half_round new taken next (asked_as bytes new taken next same both)), alike_same new))
 
-    pub unsummed_weathers : (bytes : Bytes) (new : List (Named D)) (taken : Taken) (next : Result (Option Bytes) Refusal) → bytes ≡ request → TakesAndAsks sense tags.good faults a b old bytes taken next new
-        → Weathers sense tags.good faults {T = Sum} ⊥ (ReachedBy first) first a (Err refusal.NoMemory) new
+    pub unsummed_weathers : (bytes : Bytes) (new : List (Named D)) (taken : Taken) (next : Result (Option Bytes) Refusal) → bytes ≡ request → TakesAndAsks view tags.good faults a b old bytes taken next new
+        → Weathers view tags.good faults {T = Sum} ⊥ (ReachedBy first) first a (Err refusal.NoMemory) new
     unsummed_weathers bytes new taken next same both = taken_weathers new taken (Err refusal.NoMemory) (asked_as bytes new taken next same both).takes (λ after set own. tt)
 
   -- nothing is asked
   pub unasked : (first rs : List (Named D)) (why : Refusal) → rs ≡ first → Of rs a (λ kept. Asks kept (Err why)) → RunsSession tags a b first (Err why) first
   unasked first rs why same refused = inl (no_request (subst (λ l. Of l a (λ kept. Asks kept (Err why))) same refused))
 
-  pub unasked_weathers : (first rs : List (Named D)) (why : Refusal) → AreUp first → rs ≡ first → Of rs a (λ kept. Asks kept (Err why)) → Weathers sense tags.good faults {T = Sum} ⊥ (ReachedBy first) first a (Err why) first
+  pub unasked_weathers : (first rs : List (Named D)) (why : Refusal) → AreUp first → rs ≡ first → Of rs a (λ kept. Asks kept (Err why)) → Weathers view tags.good faults {T = Sum} ⊥ (ReachedBy first) first a (Err why) first
   unasked_weathers first rs why up same refused = by (subst (λ l. Of l a (λ kept. Asks kept (Err why))) same refused)
     where
-      by : Of first a (λ kept. Asks kept (Err why)) → Weathers sense tags.good faults {T = Sum} ⊥ (ReachedBy first) first a (Err why) first
+      by : Of first a (λ kept. Asks kept (Err why)) → Weathers view tags.good faults {T = Sum} ⊥ (ReachedBy first) first a (Err why) first
       by (kept, is, asks) =
           let own = up_of first a kept up is in
           record {
@@ -388,7 +389,7 @@ module _ {D : Type 0} (sense : Sense D) (faults : D → ℕ) (tags : Tags) (a b 
             set = sym (unchanged first a kept is);
             up = inl own;
             cause = mild_caused ⊥ (Falls faults kept kept) why (asks_mild kept own (Err why) asks);
-            fares = fares_still sense tags.good faults (ReachedBy first) first a kept is own (inl refl);
+            fares = fares_still view tags.good faults (ReachedBy first) first a kept is own (inl refl);
           }
 
 -- ---- the line of a session
@@ -402,7 +403,7 @@ no_text a b text reply why is silent words = by (sym silent_line ∙ words)
     by : ◌≡◌ {A = Option Bytes} None (Some text) → ⊥
     by e = absurd cc
 
-module _ {D : Type 0} (tags : Tags) (a b : Bytes) where
+module _ {D : Type 0} (tags : EnvelopeView) (a b : Bytes) where
   -- what a stopped line leaves, by its session
   left_by : (old new : List (Named D)) (reply : Result Sum Refusal) → Session tags.good a b old reply new → FrontOf (RunsSync tags a b) (Came tags a b) old new
   left_by old new reply (no_request asked) = inl refl
@@ -419,8 +420,8 @@ module _ {D : Type 0} (tags : Tags) (a b : Bytes) where
   syncs old new reply (Err s) (inl session) words = record { replicas = new; is_front = left_by old new reply session; alike = alike_same new }
   syncs old new reply (Err s) (inr (why, is, silent, (mid, came, alike))) words = record { replicas = mid; is_front = inr (inr came); alike = alike }
 
-  pub sync_handles : (sense : Sense D) (faults : D → ℕ) (old new : List (Named D)) (reply : Result Sum Refusal) (result : Result Bytes RunStop) → AreUp old
-      → Weathers sense tags.good faults ⊥ (FrontOf (RunsSync tags a b) (Came tags a b) old) old a reply new → Words reply (synced_line a b reply) result
-      → Handles sense tags.good faults ⊥ (Some a) NoJournal (FrontOf (RunsSync tags a b) (Came tags a b) old) old result new
-  sync_handles sense faults old new reply result up w words =
-      handles sense tags.good (FrontOf (RunsSync tags a b) (Came tags a b) old) faults ⊥ old a reply new up (inl refl) w NoJournal (synced_line a b reply) result (λ fell. ap (synced_line a b) fell.1) words
+  pub sync_handles : (view : DiskView D) (faults : D → ℕ) (old new : List (Named D)) (reply : Result Sum Refusal) (result : Result Bytes RunStop) → AreUp old
+      → Weathers view tags.good faults ⊥ (FrontOf (RunsSync tags a b) (Came tags a b) old) old a reply new → Words reply (synced_line a b reply) result
+      → Handles view tags.good faults ⊥ (Some a) NoJournal (FrontOf (RunsSync tags a b) (Came tags a b) old) old result new
+  sync_handles view faults old new reply result up w words =
+      handles view tags.good (FrontOf (RunsSync tags a b) (Came tags a b) old) faults ⊥ old a reply new up (inl refl) w NoJournal (synced_line a b reply) result (λ fell. ap (synced_line a b) fell.1) words

@@ -8,7 +8,8 @@ use Rattle.outside.specs.Crashes.{LeavesOnly}
 use Rattle.outside.specs.Envelope.{author_id}
 use Rattle.policy_ast.specs.declared.policy.PlacedItem.{PlacedItem}
 use Rattle.replica.specs.Calls.{IsOpened, IsRefusedJournal}
-use Rattle.replica.specs.Disks.{IsTrusted, OpensWhole, Sense, Survives}
+use Rattle.replica.specs.Disks.{IsTrusted, OpensWhole, Survives}
+use Rattle.outside.specs.Disk.{DiskView}
 use Rattle.replica.specs.Fronts.{AnswersOpening, Front, OpensAs, Opens, front_of}
 use Rattle.replica.specs.Kept.{Kept, criteria_of}
 use Rattle.script_texts.specs.Bytes.{Bytes}
@@ -16,12 +17,12 @@ use Rattle.world.specs.Worlds.{EachPair, Named, Of, Site, disks_of, kept_of}
 use Rattle.world.specs.declared.stop.RunStop.{RunStop}
 use Rattle.world.specs.declared.stop.RunStop.TheVariants as stop
 
-module _ {D : Type 0} (sense : Sense D) (good : List ℕ → List ℕ → List ℕ → Bool) where
+module _ {D : Type 0} (view : DiskView D) (good : List ℕ → List ℕ → List ℕ → Bool) where
   -- ---- lines
 
   -- Each replica's disk is trusted, and what a crash may leave of it opens to what the replica holds, or to that with the commit in which its disk failed.
   abbrev pub AreSafe : List (Named D) → Type 0
-  AreSafe replicas = (a : Bytes) (kept : Kept D) → kept_of replicas a ≡ Some kept → IsTrusted good sense kept × Survives good sense kept
+  AreSafe replicas = (a : Bytes) (kept : Kept D) → kept_of replicas a ≡ Some kept → IsTrusted good view kept × Survives good view kept
 
   -- The image opens to what the replica of the name holds.
   abbrev pub OpensIn : List (Named D) → Bytes → List ℕ → Type 0
@@ -31,17 +32,17 @@ module _ {D : Type 0} (sense : Sense D) (good : List ℕ → List ℕ → List �
   abbrev pub OpenAtEachMoment : (List (Named D) → Type 0) → List (Named D) → List (Named D) → Type 0
   OpenAtEachMoment reached old new =
       (a : Bytes) (before after : Kept D) → kept_of old a ≡ Some before → kept_of new a ≡ Some after
-      → LeavesOnly (sense.content before.disk) (sense.content after.disk) (λ image. (replicas : List (Named D)) × reached replicas × OpensIn replicas a image)
+      → LeavesOnly (view.content before.disk) (view.content after.disk) (λ image. (replicas : List (Named D)) × reached replicas × OpensIn replicas a image)
 
   -- ---- openings
 
   -- A disk that is told opens to the replica's front.
   abbrev pub OpensTo : Criteria → D → Front → Type 0
-  OpensTo criteria disk front = IsTrue sense.tells → OpensAs criteria (sense.content disk).reads (Opens front)
+  OpensTo criteria disk front = IsTrue view.tells → OpensAs criteria (view.content disk).reads (Opens front)
 
   -- What its disk reads is refused.
   abbrev pub IsRefused : Criteria → D → OpenFault → Type 0
-  IsRefused criteria disk cause = IsRefusedJournal cause × (IsTrue sense.tells → AnswersOpening criteria (sense.content disk).reads (Err cause))
+  IsRefused criteria disk cause = IsRefusedJournal cause × (IsTrue view.tells → AnswersOpening criteria (view.content disk).reads (Err cause))
 
   module _ (policy : List PlacedItem) (digest : List ℕ) where
     abbrev pub criteria : Criteria
@@ -89,7 +90,7 @@ module _ {D : Type 0} (sense : Sense D) (good : List ℕ → List ℕ → List �
 
     -- Each disk at each moment of an opening: what a crash might have left before, or what reads as the same commits; and a journal that was begun is left as it is.
     abbrev pub OpenWhole : List D → List D → Type 0
-    OpenWhole old new = EachPair (λ d e. OpensWhole digest (sense.content d) (sense.content e)) old new
+    OpenWhole old new = EachPair (λ d e. OpensWhole digest (view.content d) (view.content e)) old new
 
 -- All disks behind an opening: those of the world, or those handed back.
 abbrev pub opened_disks : {D : Type 0} → Result (Site D) (RunStop × Vec D Global) → List D

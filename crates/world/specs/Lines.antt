@@ -1,5 +1,6 @@
 -- What each line of a script does: from a world to the line's text and the world behind it.
 use Rattle.std.specs.Prelude.{◌≡◌, ℕ, Bool, true, false, List, [], ◌∷◌, length, codes, Option, Some, None, Result, Ok, Err}
+use Rattle.outside.specs.Envelope.{EnvelopeView}
 use Rattle.base_bytes.specs.declared.arg.Arg.{Arg}
 use Rattle.braid_run.specs.RunOf.{IsRunOf}
 use Rattle.braid_run.specs.declared.entry.Entry.{Entry}
@@ -31,11 +32,6 @@ may_follow world other = has_place world other
 
 abbrev pub may_run : {D : Type 0} → Site D → Line → Bool
 may_run site one = may_follow (declared site) one
-
--- An envelope's test of tags, and the tags that it tells.
-pub record Tags : Type 0 where
-  pub good : List ℕ → List ℕ → List ℕ → Bool
-  pub told : Option (List ℕ → List ℕ → List ℕ)
 
 -- What is asked of a replica: an action by its name, with its arguments, and whether it is to be the first of its graph.
 abbrev pub action_of : Bytes → List Arg → Bool → Action
@@ -100,7 +96,7 @@ module _ {D : Type 0} where
   abbrev pub Makes : (ℕ → Bytes → Option Bytes → Type 0) → Site D → Bytes → Site D → Type 0
   Makes says old text new = (made : Option Bytes) × says (next_number old) text made × (new ≡ record old { messages = with_message old.messages made })
 
-  module _ (tags : Tags) where
+  module _ (tags : EnvelopeView) where
     -- `take A n`: the same, and no message is made.
     abbrev pub RunsTake : Bytes → Option Bytes → List (Named D) → Bytes → List (Named D) → Type 0
     RunsTake a None old text new = (text ≡ no_message_text (codes "take") (a ∷ [])) × (new ≡ old)

@@ -3,7 +3,8 @@ use Rattle.std.specs.Prelude.{◌≡◌, ◌⊎◌, ℕ, ◌≤◌, Bool, IsTrue
 use Rattle.journal.specs.declared.fault.OpenFault.{OpenFault}
 use Rattle.outside.specs.Causes.{Rose}
 use Rattle.replica.specs.Calls.{IsRefusedJournal, Restarts, restart_opens}
-use Rattle.replica.specs.Disks.{IsTrusted, Sense}
+use Rattle.replica.specs.Disks.{IsTrusted}
+use Rattle.outside.specs.Disk.{DiskView}
 use Rattle.replica.specs.Fronts.{AnswersOpening}
 use Rattle.replica.specs.Kept.{Kept, criteria_of}
 use Rattle.replica.specs.declared.counts.Taken.{Taken}
@@ -12,7 +13,8 @@ use Rattle.replica.specs.declared.refusal.Refusal.TheVariants as refusal
 use Rattle.script.specs.declared.line.Line.{Line}
 use Rattle.script.specs.declared.line.Line.TheVariants as line
 use Rattle.script_texts.specs.Bytes.{Bytes}
-use Rattle.world.specs.Lines.{Runs, Tags}
+use Rattle.world.specs.Lines.{Runs}
+use Rattle.outside.specs.Envelope.{EnvelopeView}
 use Rattle.world.specs.Replies.{restarted_line}
 use Rattle.world.specs.Sessions.{Goes, IsHalfRound, Sum}
 use Rattle.world.specs.Worlds.{AreAlike, Changes, EachPair, Named, Of, Site, kept_of}
@@ -42,9 +44,9 @@ HasCause before now faults old new (stop.Journal name why) = Unit {0}
 HasCause before now faults old new stop.NoMemory = Unit {0}
 
 -- A journal is refused at a restart alone: what the disk of the replica of that name reads is refused. It never is on a disk that is trusted.
-abbrev pub RefusesJournal : {D : Type 0} → Sense D → (List ℕ → List ℕ → List ℕ → Bool) → List (Named D) → Line → Bytes → OpenFault → Type 0
-RefusesJournal sense good replicas one name cause =
-    (one ≡ line.Restart name) × IsRefusedJournal cause × Of replicas name (λ kept. (IsTrue sense.tells → AnswersOpening (criteria_of good kept) (sense.content kept.disk).reads (Err cause)) × (IsTrusted good sense kept → ⊥))
+abbrev pub RefusesJournal : {D : Type 0} → DiskView D → (List ℕ → List ℕ → List ℕ → Bool) → List (Named D) → Line → Bytes → OpenFault → Type 0
+RefusesJournal view good replicas one name cause =
+    (one ≡ line.Restart name) × IsRefusedJournal cause × Of replicas name (λ kept. (IsTrue view.tells → AnswersOpening (criteria_of good kept) (view.content kept.disk).reads (Err cause)) × (IsTrusted good view kept → ⊥))
 
 -- The replica that a line may change, by its name.
 abbrev pub changed_name : Line → Option Bytes
@@ -66,9 +68,9 @@ OwnFalls {D = D} faults own old new =
     (a : Bytes) × (before after : Kept D) × (own ≡ Some a) × (kept_of old a ≡ Some before) × (kept_of new a ≡ Some after) × Falls faults before after
 
 -- A restart gives back what was held where the disk is trusted. No other line asks for that.
-abbrev pub IsSteady : {D : Type 0} → Sense D → (List ℕ → List ℕ → List ℕ → Bool) → List (Named D) → Line → Type 0
-IsSteady sense good replicas (line.Restart a) = Of replicas a (IsTrusted good sense)
-IsSteady sense good replicas other = Unit {0}
+abbrev pub IsSteady : {D : Type 0} → DiskView D → (List ℕ → List ℕ → List ℕ → Bool) → List (Named D) → Line → Type 0
+IsSteady view good replicas (line.Restart a) = Of replicas a (IsTrusted good view)
+IsSteady view good replicas other = Unit {0}
 
 -- What a refused restart of the replica of this name stops a run with. Memory may lack for the name.
 abbrev pub IsRestartStop : Bytes → Refusal → RunStop → Type 0
@@ -83,17 +85,17 @@ RestartWords name (Err refused) result = MatchResult result (λ text. ⊥) (λ w
 
 -- A `restart` line on whatever disk: the replica of the name, and no other, opens its disk again. Where disks tell, it then holds what its disk reads, or that is
 -- refused.
-abbrev pub Reopens : {D : Type 0} → Sense D → (List ℕ → List ℕ → List ℕ → Bool) → List (Named D) → Line → Result Bytes RunStop → List (Named D) → Type 0
-Reopens sense good old (line.Restart a) result new =
+abbrev pub Reopens : {D : Type 0} → DiskView D → (List ℕ → List ℕ → List ℕ → Bool) → List (Named D) → Line → Result Bytes RunStop → List (Named D) → Type 0
+Reopens view good old (line.Restart a) result new =
     (reply : Result ℕ Refusal)
-    × Changes old a (λ before after. Restarts before reply after × (IsTrue sense.tells → AnswersOpening (criteria_of good before) (sense.content before.disk).reads (restart_opens reply after))) new
+    × Changes old a (λ before after. Restarts before reply after × (IsTrue view.tells → AnswersOpening (criteria_of good before) (view.content before.disk).reads (restart_opens reply after))) new
     × RestartWords a reply result
-Reopens sense good old other result new = Unit {0}
+Reopens view good old other result new = Unit {0}
 
 -- The same of a step, which appends the text.
-abbrev pub StepsReopening : {T D : Type 0} → Sense D → (List ℕ → List ℕ → List ℕ → Bool) → Site D → Line → Bytes → Result T RunStop → Bytes → Site D → Type 0
-StepsReopening sense good old one before (Ok done) after new = (text : Bytes) × Reopens sense good old.replicas one (Ok text) new.replicas × (after ≡ before ++ text)
-StepsReopening sense good old one before (Err why) after new = Reopens sense good old.replicas one (Err why) new.replicas × (after ≡ before)
+abbrev pub StepsReopening : {T D : Type 0} → DiskView D → (List ℕ → List ℕ → List ℕ → Bool) → Site D → Line → Bytes → Result T RunStop → Bytes → Site D → Type 0
+StepsReopening view good old one before (Ok done) after new = (text : Bytes) × Reopens view good old.replicas one (Ok text) new.replicas × (after ≡ before ++ text)
+StepsReopening view good old one before (Err why) after new = Reopens view good old.replicas one (Err why) new.replicas × (after ≡ before)
 
 -- Only these lines make a message, or none under its number.
 abbrev pub HasNumber : Line → Type 0
@@ -109,7 +111,7 @@ Acts (line.Init a f args) = Unit {0}
 Acts (line.Act a f args) = Unit {0}
 Acts other = ⊥
 
-module _ {D : Type 0} (tags : Tags) where
+module _ {D : Type 0} (tags : EnvelopeView) where
   -- So far a session came: some rounds, and maybe the answer and the take of one more.
   abbrev pub Came : Bytes → Bytes → List (Named D) → List (Named D) → Type 0
   Came a b old new =

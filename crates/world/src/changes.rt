@@ -41,9 +41,9 @@ pub fn init_line<R: Runner, G: Graph, F: FactBase, D: Disk, E: Envelope, L: Ledg
 ) -> Result<Bytes, RunStop>
     requires there { is_named replicas.old.items name.now ≡ true }
     requires up { AreUp replicas.old.items }
-    ensures line { Changing (RunsAction (codes "init") name.now (λ kept. Begins kept E.good E.tag_of (action_of action.now args.now true))) NoneOf replicas.old.items result replicas.new.items }
+    ensures line { Changing (RunsAction (codes "init") name.now (λ kept. Begins kept E.seen.good E.seen.told (action_of action.now args.now true))) NoneOf replicas.old.items result replicas.new.items }
     ensures later { E.faults env.old ≤ E.faults env.new }
-    ensures disks { Handles (record { tells = D.tells; content = D.content; honest = D.honest }) E.good D.faults (Rose (E.faults env.old) (E.faults env.new)) (Some name.now) NoJournal (FrontOf (RunsAction (codes "init") name.now (λ kept. Begins kept E.good E.tag_of (action_of action.now args.now true))) NoneOf replicas.old.items) replicas.old.items result replicas.new.items }
+    ensures disks { Handles D.seen E.seen.good D.faults (Rose (E.faults env.old) (E.faults env.new)) (Some name.now) NoJournal (FrontOf (RunsAction (codes "init") name.now (λ kept. Begins kept E.seen.good E.seen.told (action_of action.now args.now true))) NoneOf replicas.old.items) replicas.old.items result replicas.new.items }
 {
     let reply = init(alloc, replicas, name, action, args, env, steps);
     published_line(alloc, "init", name, reply)
@@ -61,9 +61,9 @@ pub fn act_line<R: Runner, G: Graph, F: FactBase, D: Disk, E: Envelope, L: Ledge
 ) -> Result<Bytes, RunStop>
     requires there { is_named replicas.old.items name.now ≡ true }
     requires up { AreUp replicas.old.items }
-    ensures line { Changing (RunsAction (codes "act") name.now (λ kept. ActsIn kept E.good E.tag_of (action_of action.now args.now false))) NoneOf replicas.old.items result replicas.new.items }
+    ensures line { Changing (RunsAction (codes "act") name.now (λ kept. ActsIn kept E.seen.good E.seen.told (action_of action.now args.now false))) NoneOf replicas.old.items result replicas.new.items }
     ensures later { E.faults env.old ≤ E.faults env.new }
-    ensures disks { Handles (record { tells = D.tells; content = D.content; honest = D.honest }) E.good D.faults (Rose (E.faults env.old) (E.faults env.new)) (Some name.now) NoJournal (FrontOf (RunsAction (codes "act") name.now (λ kept. ActsIn kept E.good E.tag_of (action_of action.now args.now false))) NoneOf replicas.old.items) replicas.old.items result replicas.new.items }
+    ensures disks { Handles D.seen E.seen.good D.faults (Rose (E.faults env.old) (E.faults env.new)) (Some name.now) NoJournal (FrontOf (RunsAction (codes "act") name.now (λ kept. ActsIn kept E.seen.good E.seen.told (action_of action.now args.now false))) NoneOf replicas.old.items) replicas.old.items result replicas.new.items }
 {
     let reply = act(alloc, replicas, name, action, args, env, steps);
     published_line(alloc, "act", name, reply)
@@ -91,7 +91,7 @@ pub fn join_line<R: Runner, G: Graph, F: FactBase, D: Disk>(
     requires up { AreUp replicas.old.items }
     requires other { is_named replicas.old.items other.now ≡ true }
     ensures line { Changing (RunsJoin name.now other.now) NoneOf replicas.old.items result replicas.new.items }
-    ensures disks { (good : List ℕ → List ℕ → List ℕ → Bool) → Handles (record { tells = D.tells; content = D.content; honest = D.honest }) good D.faults ⊥ (Some name.now) NoJournal (FrontOf (RunsJoin name.now other.now) NoneOf replicas.old.items) replicas.old.items result replicas.new.items }
+    ensures disks { (good : List ℕ → List ℕ → List ℕ → Bool) → Handles D.seen good D.faults ⊥ (Some name.now) NoJournal (FrontOf (RunsJoin name.now other.now) NoneOf replicas.old.items) replicas.old.items result replicas.new.items }
 {
     let own = graph_of(replicas.as_slice(), name);
     let known = graph_of(replicas.as_slice(), other);
@@ -122,8 +122,8 @@ fn take_message<R: Runner, G: Graph, F: FactBase, D: Disk, E: Envelope, L: Ledge
 ) -> Result<Bytes, RunStop>
     requires there { is_named replicas.old.items name.now ≡ true }
     requires up { AreUp replicas.old.items }
-    ensures line { Changing (RunsTake (record { good = E.good; told = E.tag_of }) name.now (Some message.now)) NoneOf replicas.old.items result replicas.new.items }
-    ensures disks { Handles (record { tells = D.tells; content = D.content; honest = D.honest }) E.good D.faults ⊥ (Some name.now) NoJournal (FrontOf (RunsTake (record { good = E.good; told = E.tag_of }) name.now (Some message.now)) NoneOf replicas.old.items) replicas.old.items result replicas.new.items }
+    ensures line { Changing (RunsTake E.seen name.now (Some message.now)) NoneOf replicas.old.items result replicas.new.items }
+    ensures disks { Handles D.seen E.seen.good D.faults ⊥ (Some name.now) NoJournal (FrontOf (RunsTake E.seen name.now (Some message.now)) NoneOf replicas.old.items) replicas.old.items result replicas.new.items }
 {
     let reply = take(alloc, replicas, name, message, env, steps);
     taken_line(alloc, name, reply)
@@ -140,8 +140,8 @@ pub fn take_line<R: Runner, G: Graph, F: FactBase, D: Disk, E: Envelope, L: Ledg
 ) -> Result<Bytes, RunStop>
     requires there { is_named replicas.old.items name.now ≡ true }
     requires up { AreUp replicas.old.items }
-    ensures line { Changing (RunsTake (record { good = E.good; told = E.tag_of }) name.now (option_copied message.entry)) NoneOf replicas.old.items result replicas.new.items }
-    ensures disks { Handles (record { tells = D.tells; content = D.content; honest = D.honest }) E.good D.faults ⊥ (Some name.now) NoJournal (FrontOf (RunsTake (record { good = E.good; told = E.tag_of }) name.now (option_copied message.entry)) NoneOf replicas.old.items) replicas.old.items result replicas.new.items }
+    ensures line { Changing (RunsTake E.seen name.now (option_copied message.entry)) NoneOf replicas.old.items result replicas.new.items }
+    ensures disks { Handles D.seen E.seen.good D.faults ⊥ (Some name.now) NoJournal (FrontOf (RunsTake E.seen name.now (option_copied message.entry)) NoneOf replicas.old.items) replicas.old.items result replicas.new.items }
 {
     match message {
         Some(message) => take_message(alloc, replicas, name, message.as_slice(), env, steps),
@@ -158,9 +158,9 @@ pub fn restart_line<R: Runner, G: Graph, F: FactBase, D: Disk, E: Envelope>(
 ) -> Result<Bytes, RunStop>
     requires there { is_named replicas.old.items name.now ≡ true }
     requires up { AreUp replicas.old.items }
-    ensures line { Of replicas.old.items name.now (IsTrusted E.good (record { tells = D.tells; content = D.content; honest = D.honest })) → Changing (RunsRestart name.now) NoneOf replicas.old.items result replicas.new.items }
-    ensures reopens { Reopens (record { tells = D.tells; content = D.content; honest = D.honest }) E.good replicas.old.items (line.Restart name.now) result replicas.new.items }
-    ensures disks { Handles (record { tells = D.tells; content = D.content; honest = D.honest }) E.good D.faults ⊥ (Some name.now) (RefusesAt (record { tells = D.tells; content = D.content; honest = D.honest }) E.good replicas.old.items name.now) (FrontOf (RunsRestart name.now) NoneOf replicas.old.items) replicas.old.items result replicas.new.items }
+    ensures line { Of replicas.old.items name.now (IsTrusted E.seen.good D.seen) → Changing (RunsRestart name.now) NoneOf replicas.old.items result replicas.new.items }
+    ensures reopens { Reopens D.seen E.seen.good replicas.old.items (line.Restart name.now) result replicas.new.items }
+    ensures disks { Handles D.seen E.seen.good D.faults ⊥ (Some name.now) (RefusesAt D.seen E.seen.good replicas.old.items name.now) (FrontOf (RunsRestart name.now) NoneOf replicas.old.items) replicas.old.items result replicas.new.items }
 {
     let reply = restart(alloc, replicas, name, env);
     restarted_line(alloc, name, reply)

@@ -31,7 +31,7 @@ pub fn init<R: Runner, G: Graph, F: FactBase, D: Disk, E: Envelope, L: Ledger>(
     steps: &mut Steps<L>,
 ) -> Result<Published, Refusal>
     requires there { is_named replicas.old.items name.now ≡ true }
-    ensures step { Changes replicas.old.items name.now (λ before after. Begins before E.good E.tag_of (action_of action.now args.now true) steps.old steps.new result after × Treats (record { tells = D.tells; content = D.content; honest = D.honest }) E.good D.faults before after result) replicas.new.items }
+    ensures step { Changes replicas.old.items name.now (λ before after. Begins before E.seen.good E.seen.told (action_of action.now args.now true) steps.old steps.new result after × Treats D.seen E.seen.good D.faults before after result) replicas.new.items }
     ensures later { E.faults env.old ≤ E.faults env.new }
     ensures cause { IfErr result (λ why. why ≡ refusal.Act act_fault.SealFault → Rose (E.faults env.old) (E.faults env.new)) }
     ensures seals { OnOk result (E.faults env.new ≡ E.faults env.old) }
@@ -53,7 +53,7 @@ pub fn act<R: Runner, G: Graph, F: FactBase, D: Disk, E: Envelope, L: Ledger>(
     steps: &mut Steps<L>,
 ) -> Result<Published, Refusal>
     requires there { is_named replicas.old.items name.now ≡ true }
-    ensures step { Changes replicas.old.items name.now (λ before after. ActsIn before E.good E.tag_of (action_of action.now args.now false) steps.old steps.new result after × Treats (record { tells = D.tells; content = D.content; honest = D.honest }) E.good D.faults before after result) replicas.new.items }
+    ensures step { Changes replicas.old.items name.now (λ before after. ActsIn before E.seen.good E.seen.told (action_of action.now args.now false) steps.old steps.new result after × Treats D.seen E.seen.good D.faults before after result) replicas.new.items }
     ensures later { E.faults env.old ≤ E.faults env.new }
     ensures cause { IfErr result (λ why. why ≡ refusal.Act act_fault.SealFault → Rose (E.faults env.old) (E.faults env.new)) }
     ensures seals { OnOk result (E.faults env.new ≡ E.faults env.old) }
@@ -72,7 +72,7 @@ pub fn take<R: Runner, G: Graph, F: FactBase, D: Disk, E: Envelope, L: Ledger>(
     steps: &mut Steps<L>,
 ) -> Result<Taken, Refusal>
     requires there { is_named replicas.old.items name.now ≡ true }
-    ensures step { Changes replicas.old.items name.now (λ before after. TakesIn before E.good response.now result after × Treats (record { tells = D.tells; content = D.content; honest = D.honest }) E.good D.faults before after result) replicas.new.items }
+    ensures step { Changes replicas.old.items name.now (λ before after. TakesIn before E.seen.good response.now result after × Treats D.seen E.seen.good D.faults before after result) replicas.new.items }
 {
     let place = place_of(replicas.as_slice(), name);
     replicas[place].replica.take(alloc, response, env, steps)
@@ -124,7 +124,7 @@ pub fn join<R: Runner, G: Graph, F: FactBase, D: Disk>(
     graph: &Id,
 ) -> Result<(), Refusal>
     requires there { is_named replicas.old.items name.now ≡ true }
-    ensures step { (good : List ℕ → List ℕ → List ℕ → Bool) → Changes replicas.old.items name.now (λ before after. Joins before graph.now result after × Treats (record { tells = D.tells; content = D.content; honest = D.honest }) good D.faults before after result) replicas.new.items }
+    ensures step { (good : List ℕ → List ℕ → List ℕ → Bool) → Changes replicas.old.items name.now (λ before after. Joins before graph.now result after × Treats D.seen good D.faults before after result) replicas.new.items }
 {
     let place = place_of(replicas.as_slice(), name);
     replicas[place].replica.join(alloc, graph)
@@ -149,7 +149,7 @@ pub fn restart<R: Runner, G: Graph, F: FactBase, D: Disk, E: Envelope>(
     env: &E,
 ) -> Result<usize, Refusal>
     requires there { is_named replicas.old.items name.now ≡ true }
-    ensures step { Changes replicas.old.items name.now (λ before after. RestartsOn (record { tells = D.tells; content = D.content; honest = D.honest }) E.good D.faults before after result) replicas.new.items }
+    ensures step { Changes replicas.old.items name.now (λ before after. RestartsOn D.seen E.seen.good D.faults before after result) replicas.new.items }
 {
     let place = place_of(replicas.as_slice(), name);
     replicas[place].replica.restart(alloc, env)

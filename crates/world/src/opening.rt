@@ -63,7 +63,7 @@ fn open_one<R: Runner, G: Graph, F: FactBase, D: Disk, E: Envelope>(
     disk: D,
     env: &E,
 ) -> Result<Named<R, G, F, D>, (RunStop, D)>
-    ensures opens { OpensOne (record { tells = D.tells; content = D.content; honest = D.honest }) E.good D.faults (R.rules runner) digest.now name.now disk result }
+    ensures opens { OpensOne D.seen E.seen.good D.faults (R.rules runner) digest.now name.now disk result }
 {
     let own = match name.copy(alloc) {
         Ok(own) => own,
@@ -102,8 +102,8 @@ pub fn open_all<R: Runner, G: Graph, F: FactBase, D: Disk, E: Envelope>(
 ) -> Result<(Vec<Named<R, G, F, D>>, Vec<D>), (RunStop, Vec<D>)>
     requires runners { length runners.items ≡ length names.now }
     requires disks { length names.now ≤ length disks.items }
-    ensures opens { (policy : List PlacedItem) → All (λ r. R.rules r ≡ policy) runners.items → OpensAll (record { tells = D.tells; content = D.content; honest = D.honest }) E.good D.faults policy digest.now names.now disks.items result }
-    ensures counts { CountsAll (record { tells = D.tells; content = D.content; honest = D.honest }) E.good D.faults names.now disks.items result }
+    ensures opens { (policy : List PlacedItem) → All (λ r. R.rules r ≡ policy) runners.items → OpensAll D.seen E.seen.good D.faults policy digest.now names.now disks.items result }
+    ensures counts { CountsAll D.seen E.seen.good D.faults names.now disks.items result }
     ensures room { IfOk result (λ both. length both.0.items + length both.1.items ≤ vec_capacity both.1) }
 {
     let mut replicas = match Vec::with_capacity(alloc, names.len()) {

@@ -104,7 +104,7 @@ pub fn changing_line<R: Runner, G: Graph, F: FactBase, D: Disk, E: Envelope, L: 
     requires changing { is_changing line.now ≡ true }
     requires up { AreUp replicas.old.items }
     ensures later { E.faults env.old ≤ E.faults env.new }
-    ensures fits { Fits (record { good = E.good; told = E.tag_of }) messages.now (record { tells = D.tells; content = D.content; honest = D.honest }) D.faults (E.faults env.old) (E.faults env.new) replicas.old.items result replicas.new.items line.now }
+    ensures fits { Fits E.seen messages.now D.seen D.faults (E.faults env.old) (E.faults env.new) replicas.old.items result replicas.new.items line.now }
 {
     match line {
         Line::Init(name, action, args) => {

@@ -40,7 +40,7 @@ fn round<R: Runner, G: Graph, F: FactBase, D: Disk, E: Envelope, L: Ledger>(
 ) -> Result<(Taken, Option<Bytes>), Refusal>
     requires a { is_named replicas.old.items a.now ≡ true }
     requires b { is_named replicas.old.items b.now ≡ true }
-    ensures round { GoesRound (record { tells = D.tells; content = D.content; honest = D.honest }) E.good D.faults a.now b.now replicas.old.items request.now result replicas.new.items }
+    ensures round { GoesRound D.seen E.seen.good D.faults a.now b.now replicas.old.items request.now result replicas.new.items }
 {
     let before = replicas.as_slice();
     let response = match answer(alloc, before, b, request) {
@@ -72,8 +72,8 @@ fn session<R: Runner, G: Graph, F: FactBase, D: Disk, E: Envelope, L: Ledger>(
     requires a { is_named replicas.old.items a.now ≡ true }
     requires b { is_named replicas.old.items b.now ≡ true }
     requires up { AreUp replicas.old.items }
-    ensures session { RunsSession (record { good = E.good; told = E.tag_of }) a.now b.now replicas.old.items result replicas.new.items }
-    ensures weathers { Weathers (record { tells = D.tells; content = D.content; honest = D.honest }) E.good D.faults ⊥ (FrontOf (RunsSync (record { good = E.good; told = E.tag_of }) a.now b.now) (Came (record { good = E.good; told = E.tag_of }) a.now b.now) replicas.old.items) replicas.old.items a.now result replicas.new.items }
+    ensures session { RunsSession E.seen a.now b.now replicas.old.items result replicas.new.items }
+    ensures weathers { Weathers D.seen E.seen.good D.faults ⊥ (FrontOf (RunsSync E.seen a.now b.now) (Came E.seen a.now b.now) replicas.old.items) replicas.old.items a.now result replicas.new.items }
 {
     requests_are_unambiguous();
     responses_are_unambiguous();
@@ -137,8 +137,8 @@ pub fn sync_line<R: Runner, G: Graph, F: FactBase, D: Disk, E: Envelope, L: Ledg
     requires a { is_named replicas.old.items a.now ≡ true }
     requires b { is_named replicas.old.items b.now ≡ true }
     requires up { AreUp replicas.old.items }
-    ensures line { Changing (RunsSync (record { good = E.good; told = E.tag_of }) a.now b.now) (Came (record { good = E.good; told = E.tag_of }) a.now b.now) replicas.old.items result replicas.new.items }
-    ensures disks { Handles (record { tells = D.tells; content = D.content; honest = D.honest }) E.good D.faults ⊥ (Some a.now) NoJournal (FrontOf (RunsSync (record { good = E.good; told = E.tag_of }) a.now b.now) (Came (record { good = E.good; told = E.tag_of }) a.now b.now) replicas.old.items) replicas.old.items result replicas.new.items }
+    ensures line { Changing (RunsSync E.seen a.now b.now) (Came E.seen a.now b.now) replicas.old.items result replicas.new.items }
+    ensures disks { Handles D.seen E.seen.good D.faults ⊥ (Some a.now) NoJournal (FrontOf (RunsSync E.seen a.now b.now) (Came E.seen a.now b.now) replicas.old.items) replicas.old.items result replicas.new.items }
 {
     let reply = session(alloc, replicas, a, b, env, steps);
     synced_line(alloc, a, b, reply)

@@ -4,7 +4,8 @@ ghost use Rattle.journal.specs.declared.fault.OpenFault.{OpenFault};
 ghost use Rattle.policy_ast.specs.declared.policy.PlacedItem.{PlacedItem};
 ghost use Rattle.replica.specs.Disks.{AreSoundFronts};
 ghost use Rattle.script.specs.Scripts.{with_line};
-ghost use Rattle.world.specs.Lines.{Tags, may_run};
+ghost use Rattle.world.specs.Lines.{may_run};
+ghost use Rattle.outside.specs.Envelope.{EnvelopeView};
 ghost use Rattle.world.specs.Crashes.{AreSafe, FailsFirst, OpenAtEachMoment, OpenWhole, OpensWorld, opened_disks};
 ghost use Rattle.world.specs.Stops.{Acts, AreAsHonest, HasCause, HasNumber, IsFront, IsSteady, NoneFell, OwnFalls, RefusesJournal, StepsReopening, changed_name, Steps as IsStepOf};
 ghost use Rattle.world.specs.Worlds.{AreUp, declared, disks_of, with_message};
@@ -75,17 +76,17 @@ impl<R: Runner, G: Graph, F: FactBase, D: Disk> World<R, G, F, D> {
     ) -> Result<World<R, G, F, D>, (RunStop, Vec<D>)>
         requires runners { length runners.items ≡ length names.now }
         requires disks { length names.now ≤ length disks.items }
-        ensures opens { (policy : List PlacedItem) → All (λ r. R.rules r ≡ policy) runners.items → OpensWorld (record { tells = D.tells; content = D.content; honest = D.honest }) E.good policy digest.now names.now disks.items result }
+        ensures opens { (policy : List PlacedItem) → All (λ r. R.rules r ≡ policy) runners.items → OpensWorld D.seen E.seen.good policy digest.now names.now disks.items result }
         ensures up { IfOk result (λ world. AreUp world.replicas) }
-        ensures sound { IfOk result (λ world. AllByRecursion (λ r. AreSoundFronts E.good r.kept) world.replicas) }
-        ensures crash { (policy : List PlacedItem) → All (λ r. R.rules r ≡ policy) runners.items → IsTrue D.tells → AllByRecursion (λ d. IsTrue (D.honest d)) disks.items
-            → OpenWhole (record { tells = D.tells; content = D.content; honest = D.honest }) E.good policy digest.now disks.items (opened_disks result) × IfOk result (λ world. AreSafe (record { tells = D.tells; content = D.content; honest = D.honest }) E.good world.replicas) }
+        ensures sound { IfOk result (λ world. AllByRecursion (λ r. AreSoundFronts E.seen.good r.kept) world.replicas) }
+        ensures crash { (policy : List PlacedItem) → All (λ r. R.rules r ≡ policy) runners.items → IsTrue D.seen.tells → AllByRecursion (λ d. IsTrue (D.seen.honest d)) disks.items
+            → OpenWhole D.seen E.seen.good policy digest.now disks.items (opened_disks result) × IfOk result (λ world. AreSafe D.seen E.seen.good world.replicas) }
         ensures spare { drop (length names.now) (opened_disks result) ≡ drop (length names.now) disks.items }
         ensures disks { NoneFell D.faults disks.items (opened_disks result) }
-        ensures honest { AreAsHonest D.honest disks.items (opened_disks result) }
+        ensures honest { AreAsHonest D.seen.honest disks.items (opened_disks result) }
         ensures cause { IfErr result (λ refused. HasCause 0 0 D.faults disks.items refused.1.items refused.0) }
         ensures own { (policy : List PlacedItem) → All (λ r. R.rules r ≡ policy) runners.items
-            → IfErr result (λ refused. refused.0 ≡ stop.DiskFault → FailsFirst (record { tells = D.tells; content = D.content; honest = D.honest }) E.good policy digest.now D.faults names.now disks.items refused.1.items) }
+            → IfErr result (λ refused. refused.0 ≡ stop.DiskFault → FailsFirst D.seen E.seen.good policy digest.now D.faults names.now disks.items refused.1.items) }
     {
         match open_all(alloc, runners, names, digest, disks, env) {
             Ok((replicas, spare)) => Ok(World {
@@ -118,7 +119,7 @@ impl<R: Runner, G: Graph, F: FactBase, D: Disk> World<R, G, F, D> {
         requires place { may_run self.old line.now ≡ true }
         requires making { is_making line.now ≡ true }
         requires up { AreUp self.old.replicas }
-        ensures runs { (tags : Tags) (before now : ℕ) → RunsOn tags (record { tells = D.tells; content = D.content; honest = D.honest }) D.faults before now self.old line.now result self.new }
+        ensures runs { (tags : EnvelopeView) (before now : ℕ) → RunsOn tags D.seen D.faults before now self.old line.now result self.new }
     {
         let said = said_line(
             alloc,
@@ -137,7 +138,7 @@ impl<R: Runner, G: Graph, F: FactBase, D: Disk> World<R, G, F, D> {
         requires place { may_run self.now line.now ≡ true }
         requires showing { is_showing line.now ≡ true }
         requires up { AreUp self.now.replicas }
-        ensures runs { (tags : Tags) (before now : ℕ) → RunsOn tags (record { tells = D.tells; content = D.content; honest = D.honest }) D.faults before now self.now line.now result self.now }
+        ensures runs { (tags : EnvelopeView) (before now : ℕ) → RunsOn tags D.seen D.faults before now self.now line.now result self.now }
     {
         shown_line(
             alloc,
@@ -158,7 +159,7 @@ impl<R: Runner, G: Graph, F: FactBase, D: Disk> World<R, G, F, D> {
         requires place { may_run self.old line.now ≡ true }
         requires changing { is_changing line.now ≡ true }
         requires up { AreUp self.old.replicas }
-        ensures runs { RunsOn (record { good = E.good; told = E.tag_of }) (record { tells = D.tells; content = D.content; honest = D.honest }) D.faults (E.faults env.old) (E.faults env.new) self.old line.now result self.new }
+        ensures runs { RunsOn E.seen D.seen D.faults (E.faults env.old) (E.faults env.new) self.old line.now result self.new }
         ensures later { E.faults env.old ≤ E.faults env.new }
     {
         changing_line(
@@ -180,7 +181,7 @@ impl<R: Runner, G: Graph, F: FactBase, D: Disk> World<R, G, F, D> {
     ) -> Result<Bytes, RunStop>
         requires place { may_run self.old line.now ≡ true }
         requires up { AreUp self.old.replicas }
-        ensures runs { RunsOn (record { good = E.good; told = E.tag_of }) (record { tells = D.tells; content = D.content; honest = D.honest }) D.faults (E.faults env.old) (E.faults env.new) self.old line.now result self.new }
+        ensures runs { RunsOn E.seen D.seen D.faults (E.faults env.old) (E.faults env.new) self.old line.now result self.new }
         ensures later { E.faults env.old ≤ E.faults env.new }
     {
         if is_making(line) {
@@ -203,7 +204,7 @@ impl<R: Runner, G: Graph, F: FactBase, D: Disk> World<R, G, F, D> {
     ) -> Result<(), RunStop>
         requires place { may_run self.old line.now ≡ true }
         requires up { AreUp self.old.replicas }
-        ensures steps { StepsOn (record { good = E.good; told = E.tag_of }) (record { tells = D.tells; content = D.content; honest = D.honest }) D.faults (E.faults env.old) (E.faults env.new) self.old line.now into.old result into.new self.new }
+        ensures steps { StepsOn E.seen D.seen D.faults (E.faults env.old) (E.faults env.new) self.old line.now into.old result into.new self.new }
         ensures later { E.faults env.old ≤ E.faults env.new }
     {
         let text = match self.run(alloc, line, env, steps) {
@@ -226,18 +227,18 @@ impl<R: Runner, G: Graph, F: FactBase, D: Disk> World<R, G, F, D> {
     ) -> Result<(), RunStop>
         requires place { may_run self.old line.now ≡ true }
         requires up { AreUp self.old.replicas }
-        ensures line { IsSteady (record { tells = D.tells; content = D.content; honest = D.honest }) E.good self.old.replicas line.now → IsStepOf (record { good = E.good; told = E.tag_of }) self.old line.now into.old result into.new self.new }
-        ensures restart { StepsReopening (record { tells = D.tells; content = D.content; honest = D.honest }) E.good self.old line.now into.old result into.new self.new }
-        ensures crash { AreSafe (record { tells = D.tells; content = D.content; honest = D.honest }) E.good self.old.replicas → AreSafe (record { tells = D.tells; content = D.content; honest = D.honest }) E.good self.new.replicas
-            × OpenAtEachMoment (record { tells = D.tells; content = D.content; honest = D.honest }) E.good (IsFront (record { good = E.good; told = E.tag_of }) self.old line.now) self.old.replicas self.new.replicas }
+        ensures line { IsSteady D.seen E.seen.good self.old.replicas line.now → IsStepOf E.seen self.old line.now into.old result into.new self.new }
+        ensures restart { StepsReopening D.seen E.seen.good self.old line.now into.old result into.new self.new }
+        ensures crash { AreSafe D.seen E.seen.good self.old.replicas → AreSafe D.seen E.seen.good self.new.replicas
+            × OpenAtEachMoment D.seen E.seen.good (IsFront E.seen self.old line.now) self.old.replicas self.new.replicas }
         ensures up { OnOk result (AreUp self.new.replicas) }
         ensures later { E.faults env.old ≤ E.faults env.new }
         ensures disks { NoneFell D.faults (disks_of self.old) (disks_of self.new) }
-        ensures honest { AreAsHonest D.honest (disks_of self.old) (disks_of self.new) }
+        ensures honest { AreAsHonest D.seen.honest (disks_of self.old) (disks_of self.new) }
         ensures cause { IfErr result (HasCause (E.faults env.old) (E.faults env.new) D.faults (disks_of self.old) (disks_of self.new)) }
         ensures own { result ≡ Err stop.DiskFault → OwnFalls D.faults (changed_name line.now) self.old.replicas self.new.replicas }
         ensures seals { IfErr result (λ why. why ≡ stop.SealFault → Acts line.now) }
-        ensures journals { (name : List ℕ) (cause : OpenFault) → result ≡ Err (stop.Journal name cause) → RefusesJournal (record { tells = D.tells; content = D.content; honest = D.honest }) E.good self.old.replicas line.now name cause }
+        ensures journals { (name : List ℕ) (cause : OpenFault) → result ≡ Err (stop.Journal name cause) → RefusesJournal D.seen E.seen.good self.old.replicas line.now name cause }
         ensures names { map (λ r. r.name) self.new.replicas ≡ map (λ r. r.name) self.old.replicas }
         ensures messages { OnOk result (length self.new.messages ≡ (with_line (declared self.old) line.now).messages) }
         ensures others { (self.new.messages ≡ self.old.messages) ⊎ HasNumber line.now }

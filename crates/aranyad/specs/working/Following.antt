@@ -2,10 +2,10 @@
 use Rattle.std.specs.Prelude.{◌≡◌, ◌≢◌, ℕ, ◌≤◌, List, [], ◌++◌, length, map, Result, Ok, Err}
 use Rattle.outside.specs.Causes.{Rose}
 use Rattle.replica.specs.Calls.{IsRefusedJournal}
-use Rattle.replica.specs.Disks.{Sense}
+use Rattle.outside.specs.Disk.{DiskView}
 use Rattle.script.specs.Scripts.{Declared, Lines}
 use Rattle.script.specs.declared.line.Line.{Line}
-use Rattle.world.specs.Lines.{Tags}
+use Rattle.outside.specs.Envelope.{EnvelopeView}
 use Rattle.world.specs.Worlds.{Site, disks_of}
 use Rattle.world.specs.declared.stop.RunStop.{RunStop}
 use Rattle.world.specs.declared.stop.RunStop.TheVariants as stop
@@ -26,8 +26,8 @@ pub record FollowIn {D : Type 0} (site : Site D) (lines : List Line) : Type 0 wh
   pub messages : so_far.messages ≡ length site.messages
 
 -- The lines are run in a world, and its disks are left as those lines leave them.
-abbrev pub RunsIn : {D : Type 0} → Sense D → Tags → Site D → List Line → Site D → Result Ending Halt → List (List ℕ) → Type 0
-RunsIn sense tags first lines new result texts = RunsLines sense tags first lines result texts new × LeavesDisks sense tags first lines new (disks_of new)
+abbrev pub RunsIn : {D : Type 0} → DiskView D → EnvelopeView → Site D → List Line → Site D → Result Ending Halt → List (List ℕ) → Type 0
+RunsIn view tags first lines new result texts = RunsLines view tags first lines result texts new × LeavesDisks view tags first lines new (disks_of new)
 
 -- ---- a world that stopped
 

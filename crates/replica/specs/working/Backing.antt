@@ -10,8 +10,7 @@ use Rattle.journal.specs.Outline.{Outline}
 use Rattle.journal.specs.declared.commit.Commit.{Commit}
 use Rattle.journal.specs.declared.journal.Journal.{Journal}
 use Rattle.outside.specs.Crashes.{MayLeave}
-use Rattle.outside.specs.Disk.{Content}
-use Rattle.replica.specs.Disks.{Sense}
+use Rattle.outside.specs.Disk.{Content, DiskView}
 use Rattle.replica.specs.Fronts.{behind_commits, front_of, no_front}
 use Rattle.replica.specs.declared.down.Down.{Down}
 
@@ -30,8 +29,8 @@ IsHeldBy content outline digest held None = (commits : List Commit) × LeadTo co
 IsHeldBy content outline digest held (Some down) =
     (commits : List Commit) × LeadTo commits held × ((image : List ℕ) → MayLeave content image → ReadsLoose digest commits down.loose image)
 
-pub record IsBacked {D : Type 0} (sense : Sense D) (digest : List ℕ) (held : Held) (down : Option Down) (journal : Journal D) : Type 0 where
+pub record IsBacked {D : Type 0} (view : DiskView D) (digest : List ℕ) (held : Held) (down : Option Down) (journal : Journal D) : Type 0 where
   pub commands : (journal_outline journal).commands ≡ length held.commands
   pub fresh : (journal_outline journal).is_fresh ≡ is_none held.graph_id
   pub works : down ≡ None → journal_failed journal ≡ false
-  pub backed : IsTrue sense.tells → IsTrue (sense.honest (journal_disk journal)) → IsHeldBy (sense.content (journal_disk journal)) (journal_outline journal) digest held down
+  pub backed : IsTrue view.tells → IsTrue (view.honest (journal_disk journal)) → IsHeldBy (view.content (journal_disk journal)) (journal_outline journal) digest held down

@@ -10,9 +10,9 @@ use Rattle.journal.specs.Outline.{Outline, outline_behind}
 use Rattle.journal.specs.declared.commit.Commit.{Commit}
 use Rattle.journal.specs.declared.journal.Journal.{Journal}
 use Rattle.outside.specs.Crashes.{LeavesOnly, MayLeave}
-use Rattle.outside.specs.Disk.{Content}
+use Rattle.outside.specs.Disk.{Content, DiskView}
 use Rattle.outside.specs.declared.faults.DiskStep.{DiskStep}
-use Rattle.replica.specs.Disks.{FailsWithDisk, Sense}
+use Rattle.replica.specs.Disks.{FailsWithDisk}
 use Rattle.replica.specs.Fronts.{OpensAs, Opens, behind_commit, behind_commits, front_of, no_front}
 use Rattle.replica.specs.Kept.{IsReplica, loose_of}
 use Rattle.replica.specs.Steps.{IsChange}
@@ -63,27 +63,27 @@ module _ {D : Type 0} where
       ⊎ ((step : DiskStep) × (commit : Commit) × (why ≡ refusal.DiskFault step) × IsChange (front_of old.held) commit × (front_of target ≡ behind_commit (front_of old.held) commit) × (new.held ≡ old.held)
       × (new.down ≡ Some (record { step = step; loose = Some commit })) × (journal_outline new.journal ≡ journal_outline old.journal))
 
-module _ {D : Type 0} (sense : Sense D) (faults : D → ℕ) (last_step : D → Option DiskStep) where
+module _ {D : Type 0} (view : DiskView D) (faults : D → ℕ) (last_step : D → Option DiskStep) where
   -- What writing one commit does to the journal, where what was settled is these commits.
   pub record Writes {T : Type 0} (commit : Commit) (down : Option Down) (old : Journal D) (result : Result T Refusal) (new_down : Option Down) (new : Journal D) : Type 0 where
     pub ends : EndsWriting commit down old result new_down new
     pub settled :
-        IsTrue sense.tells → IsTrue (sense.honest (journal_disk old)) → (digest : List ℕ) (commits : List Commit) → IsSettled (sense.content (journal_disk old)) (journal_outline old) digest commits
-        → OnOk result (IsSettled (sense.content (journal_disk new)) (journal_outline new) digest (commits ++ commit ∷ []))
+        IsTrue view.tells → IsTrue (view.honest (journal_disk old)) → (digest : List ℕ) (commits : List Commit) → IsSettled (view.content (journal_disk old)) (journal_outline old) digest commits
+        → OnOk result (IsSettled (view.content (journal_disk new)) (journal_outline new) digest (commits ++ commit ∷ []))
     pub moments :
-        IsTrue sense.tells → IsTrue (sense.honest (journal_disk old)) → (digest : List ℕ) (commits : List Commit) → IsSettled (sense.content (journal_disk old)) (journal_outline old) digest commits
-        → LeavesOnly (sense.content (journal_disk old)) (sense.content (journal_disk new)) (IsBeforeOrAfter digest commits commit)
-    pub honest : sense.honest (journal_disk new) ≡ sense.honest (journal_disk old)
+        IsTrue view.tells → IsTrue (view.honest (journal_disk old)) → (digest : List ℕ) (commits : List Commit) → IsSettled (view.content (journal_disk old)) (journal_outline old) digest commits
+        → LeavesOnly (view.content (journal_disk old)) (view.content (journal_disk new)) (IsBeforeOrAfter digest commits commit)
+    pub honest : view.honest (journal_disk new) ≡ view.honest (journal_disk old)
     pub disk : FailsWithDisk faults last_step (journal_disk old) (journal_disk new) result
 
   -- What a replica that was up holds behind a call that was to hold the target, and what its disk holds then and held meanwhile.
   pub record Commits {T : Type 0} (digest : List ℕ) (target : Held) (old : Parts D) (result : Result T Refusal) (new : Parts D) : Type 0 where
     pub ends : EndsCommitting target old result new
-    pub backed : IsBacked sense digest new.held new.down new.journal
+    pub backed : IsBacked view digest new.held new.down new.journal
     pub moments :
-        IsTrue sense.tells → IsTrue (sense.honest (journal_disk old.journal))
-        → LeavesOnly (sense.content (journal_disk old.journal)) (sense.content (journal_disk new.journal)) (λ image. ReadsHeld digest old.held None image ⊎ ReadsHeld digest new.held (loose_of new.down) image)
-    pub honest : sense.honest (journal_disk new.journal) ≡ sense.honest (journal_disk old.journal)
+        IsTrue view.tells → IsTrue (view.honest (journal_disk old.journal))
+        → LeavesOnly (view.content (journal_disk old.journal)) (view.content (journal_disk new.journal)) (λ image. ReadsHeld digest old.held None image ⊎ ReadsHeld digest new.held (loose_of new.down) image)
+    pub honest : view.honest (journal_disk new.journal) ≡ view.honest (journal_disk old.journal)
     pub disk : FailsWithDisk faults last_step (journal_disk old.journal) (journal_disk new.journal) result
 
   module _ (criteria : Criteria) where

@@ -9,7 +9,8 @@ use Rattle.journal.specs.declared.fault.OpenFault.TheVariants as fault
 use Rattle.outside.specs.Crashes.{LeavesOnly}
 use Rattle.outside.specs.declared.faults.DiskStep.{DiskStep}
 use Rattle.replica.specs.Calls.{IsRefusedJournal, opening_fault}
-use Rattle.replica.specs.Disks.{FailsWithDisk, Sense}
+use Rattle.replica.specs.Disks.{FailsWithDisk}
+use Rattle.outside.specs.Disk.{DiskView}
 use Rattle.replica.specs.Fronts.{AnswersOpening, Front, front_of}
 use Rattle.replica.specs.Kept.{IsReplica, loose_of}
 use Rattle.replica.specs.declared.down.Down.{Down}
@@ -49,12 +50,12 @@ module _ {D : Type 0} (criteria : Criteria) where
       (new.held ≡ old.held) × (journal_outline new.journal ≡ journal_outline old.journal)
       × ((IsKeptOut why × (new.down ≡ old.down)) ⊎ ((step : DiskStep) × (why ≡ refusal.DiskFault step) × (new.down ≡ Some (record { step = step; loose = loose_of old.down }))))
 
-  pub record Reopens (sense : Sense D) (faults : D → ℕ) (last_step : D → Option DiskStep) (old : Parts D) (result : Result ℕ Refusal) (new : Parts D) : Type 0 where
+  pub record Reopens (view : DiskView D) (faults : D → ℕ) (last_step : D → Option DiskStep) (old : Parts D) (result : Result ℕ Refusal) (new : Parts D) : Type 0 where
     pub ends : EndsReopening old result new
-    pub backed : IsBacked sense criteria.digest new.held new.down new.journal
-    pub opens : IsTrue sense.tells → AnswersOpening criteria (sense.content (journal_disk old.journal)).reads (reopened_front result new.held)
+    pub backed : IsBacked view criteria.digest new.held new.down new.journal
+    pub opens : IsTrue view.tells → AnswersOpening criteria (view.content (journal_disk old.journal)).reads (reopened_front result new.held)
     pub moments :
-        IsTrue sense.tells → IsTrue (sense.honest (journal_disk old.journal))
-        → LeavesOnly (sense.content (journal_disk old.journal)) (sense.content (journal_disk new.journal)) (WasOrReadsAlike criteria.digest (sense.content (journal_disk old.journal)))
-    pub honest : sense.honest (journal_disk new.journal) ≡ sense.honest (journal_disk old.journal)
+        IsTrue view.tells → IsTrue (view.honest (journal_disk old.journal))
+        → LeavesOnly (view.content (journal_disk old.journal)) (view.content (journal_disk new.journal)) (WasOrReadsAlike criteria.digest (view.content (journal_disk old.journal)))
+    pub honest : view.honest (journal_disk new.journal) ≡ view.honest (journal_disk old.journal)
     pub disk : FailsWithDisk faults last_step (journal_disk old.journal) (journal_disk new.journal) result

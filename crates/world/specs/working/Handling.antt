@@ -5,7 +5,8 @@ use Rattle.outside.specs.Causes.{Rose}
 use Rattle.outside.specs.Crashes.{LeavesOnly}
 use Rattle.outside.specs.declared.faults.DiskStep.{DiskStep}
 use Rattle.replica.specs.Calls.{IsRefusedJournal, Restarts, StaysAtRestart, restart_opens}
-use Rattle.replica.specs.Disks.{IsTrusted, Sense, Survives, Withstands}
+use Rattle.replica.specs.Disks.{IsTrusted, Survives, Withstands}
+use Rattle.outside.specs.Disk.{DiskView}
 use Rattle.replica.specs.Fronts.{AnswersOpening, Front, OpensAs, Opens, front_of}
 use Rattle.replica.specs.Kept.{Kept, criteria_of}
 use Rattle.replica.specs.declared.refusal.Refusal.{Refusal}
@@ -37,40 +38,40 @@ module _ {D : Type 0} (good : List ℕ → List ℕ → List ℕ → Bool) where
     pub judged : criteria_of good kept ≡ criteria_of good before
     pub holds : front_of kept.held ≡ front
 
-module _ {D : Type 0} (sense : Sense D) (good : List ℕ → List ℕ → List ℕ → Bool) where
+module _ {D : Type 0} (view : DiskView D) (good : List ℕ → List ℕ → List ℕ → Bool) where
   -- ---- one replica
 
   -- The disk is trusted, and a crash leaves of it what opens to what the replica may open to.
   abbrev pub IsSafe : Kept D → Type 0
-  IsSafe kept = IsTrusted good sense kept × Survives good sense kept
+  IsSafe kept = IsTrusted good view kept × Survives good view kept
 
   -- What the disk of the replica of this name reads is refused, which never is so where it is trusted.
   abbrev pub RefusesAt : List (Named D) → Bytes → List ℕ → OpenFault → Type 0
   RefusesAt replicas name told cause =
-      (told ≡ name) × IsRefusedJournal cause × Of replicas name (λ kept. (IsTrue sense.tells → AnswersOpening (criteria_of good kept) (sense.content kept.disk).reads (Err cause)) × (IsTrusted good sense kept → ⊥))
+      (told ≡ name) × IsRefusedJournal cause × Of replicas name (λ kept. (IsTrue view.tells → AnswersOpening (criteria_of good kept) (view.content kept.disk).reads (Err cause)) × (IsTrusted good view kept → ⊥))
 
   module _ (faults : D → ℕ) where
     -- A call: the count of the disk's faults doesn't fall, and rose where the call says that the disk failed. The disk is as honest as it was. A disk that was trusted withstands it.
     pub record Treats {T : Type 0} (old new : Kept D) (reply : Result T Refusal) : Type 0 where
       pub later : faults old.disk ≤ faults new.disk
-      pub as_honest : sense.honest new.disk ≡ sense.honest old.disk
+      pub as_honest : view.honest new.disk ≡ view.honest old.disk
       pub cause : IsDiskFault reply → Rose (faults old.disk) (faults new.disk)
-      pub crash : IsTrusted good sense old → Withstands good sense old new
+      pub crash : IsTrusted good view old → Withstands good view old new
 
     -- A restart, with what its disk reads.
     pub record RestartsOn (old new : Kept D) (reply : Result ℕ Refusal) : Type 0 where
       pub restarts : Restarts old reply new
-      pub opens : IsTrue sense.tells → AnswersOpening (criteria_of good old) (sense.content old.disk).reads (restart_opens reply new)
-      pub stays : IsTrusted good sense old → StaysAtRestart old reply new
+      pub opens : IsTrue view.tells → AnswersOpening (criteria_of good old) (view.content old.disk).reads (restart_opens reply new)
+      pub stays : IsTrusted good view old → StaysAtRestart old reply new
       pub treats : Treats old new reply
 
     -- From what a replica keeps to what it keeps behind some calls: a disk that was safe is safe, and a crash at any moment between them leaves what opens to a
     -- front that was reached.
     pub record Fares (reached : List (Named D) → Type 0) (old : List (Named D)) (name : Bytes) (before after : Kept D) : Type 0 where
       pub later : faults before.disk ≤ faults after.disk
-      pub as_honest : sense.honest after.disk ≡ sense.honest before.disk
+      pub as_honest : view.honest after.disk ≡ view.honest before.disk
       pub crash : IsSafe before → IsSafe after
-          × LeavesOnly (sense.content before.disk) (sense.content after.disk) (λ image. (front : Front) × Reaches good reached old name before front × OpensAs (criteria_of good before) image (Opens front))
+          × LeavesOnly (view.content before.disk) (view.content after.disk) (λ image. (front : Front) × Reaches good reached old name before front × OpensAs (criteria_of good before) image (Opens front))
 
     -- Some calls of the replica of a name, the last of which gave this reply.
     pub record Weathers {T : Type 0} (sealed : Type 0) (reached : List (Named D) → Type 0) (old : List (Named D)) (name : Bytes) (reply : Result T Refusal) (new : List (Named D)) : Type 0 where
@@ -86,7 +87,7 @@ module _ {D : Type 0} (sense : Sense D) (good : List ℕ → List ℕ → List �
 
     -- A line, whatever it answers. `own` names the replica that it may change.
     pub record Handles {T : Type 0} (sealed : Type 0) (own : Option Bytes) (refused : List ℕ → OpenFault → Type 0) (reached : List (Named D) → Type 0) (old : List (Named D)) (result : Result T RunStop) (new : List (Named D)) : Type 0 where
-      pub later : AreLater faults sense.honest old new
+      pub later : AreLater faults view.honest old new
       pub up : OnOk result (AreUp new)
       pub cause : IfErr result (IsStopFor sealed (Fell faults own old new) refused)
-      pub crash : AreSafe sense good old → AreSafe sense good new × OpenAtEachMoment sense good reached old new
+      pub crash : AreSafe view good old → AreSafe view good new × OpenAtEachMoment view good reached old new

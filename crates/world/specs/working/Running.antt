@@ -6,7 +6,8 @@ use Rattle.script.specs.declared.line.Line.TheVariants as line
 use Rattle.script_texts.specs.Bytes.{Bytes}
 use Rattle.script_texts.specs.Replies.{replica_text}
 use Rattle.state_texts.specs.States.{graph_text}
-use Rattle.world.specs.Lines.{RunsAction, RunsJoin, RunsRestart, RunsSync, RunsTake, SaysAnswer, SaysAsk, SaysInject, SaysNext, ShowsEffects, ShowsFacts, Tags, action_of}
+use Rattle.world.specs.Lines.{RunsAction, RunsJoin, RunsRestart, RunsSync, RunsTake, SaysAnswer, SaysAsk, SaysInject, SaysNext, ShowsEffects, ShowsFacts, action_of}
+use Rattle.outside.specs.Envelope.{EnvelopeView}
 use Rattle.world.specs.Worlds.{AreAlike, Named, Of, Site, message_at, next_number}
 use Rattle.world.specs.declared.said.Said.{Said}
 use Rattle.world.specs.declared.stop.RunStop.{RunStop}
@@ -60,7 +61,7 @@ module _ {D : Type 0} where
   ShowsIn replicas other text = ⊥
 
   -- What a line does to the replicas that may change one.
-  abbrev pub RunsIn : Tags → List (Option Bytes) → Line → List (Named D) → Bytes → List (Named D) → Type 0
+  abbrev pub RunsIn : EnvelopeView → List (Option Bytes) → Line → List (Named D) → Bytes → List (Named D) → Type 0
   RunsIn tags messages (line.Init a f args) old text new = RunsAction (codes "init") a (λ kept. Begins kept tags.good tags.told (action_of f args true)) old text new
   RunsIn tags messages (line.Join a b) old text new = RunsJoin a b old text new
   RunsIn tags messages (line.Act a f args) old text new = RunsAction (codes "act") a (λ kept. ActsIn kept tags.good tags.told (action_of f args false)) old text new

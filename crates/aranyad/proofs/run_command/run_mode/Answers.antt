@@ -5,4 +5,4 @@ pub returns-in-Run-clause-goes : goal.returns-in-Run-clause-goes
 returns-in-Run-clause-goes g c = λ told honest. rw c.in-Run.is (c.run_files.ensures.goes told honest)
 
 pub returns-in-Check-clause-later : goal.returns-in-Check-clause-later
-returns-in-Check-clause-later g c = later_at_once g.D.Disk.faults g.D.Disk.honest c.args.disks.now.items
+returns-in-Check-clause-later g c = later_at_once g.D.Disk.faults g.D.Disk.seen.honest c.args.disks.now.items

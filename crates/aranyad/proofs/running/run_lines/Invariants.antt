@@ -12,9 +12,9 @@ invariant-loop-line g l =
     record {
       follow : FollowIn l.world (drop l.line-index l.lines);
       up : AreUp l.world.replicas;
-      so_far : AreSafe (record { tells = g.D.Disk.tells; content = g.D.Disk.content; honest = g.D.Disk.honest }) g.E.Envelope.good l.fn.world.replicas
-          → SoFar (record { good = g.E.Envelope.good; told = g.E.Envelope.tag_of }) l.fn.world l.lines (g.K.Sink.written l.fn.out) (drop l.line-index l.lines) l.world (g.K.Sink.written l.out) × StandsAt (record { tells = g.D.Disk.tells; content = g.D.Disk.content; honest = g.D.Disk.honest }) (record { good = g.E.Envelope.good; told = g.E.Envelope.tag_of }) l.fn.world l.lines l.world;
-      disks : AreLater g.D.Disk.faults g.D.Disk.honest (disks_of l.fn.world) (disks_of l.world);
+      so_far : AreSafe g.D.Disk.seen g.E.Envelope.seen.good l.fn.world.replicas
+          → SoFar g.E.Envelope.seen l.fn.world l.lines (g.K.Sink.written l.fn.out) (drop l.line-index l.lines) l.world (g.K.Sink.written l.out) × StandsAt g.D.Disk.seen g.E.Envelope.seen l.fn.world l.lines l.world;
+      disks : AreLater g.D.Disk.faults g.D.Disk.seen.honest (disks_of l.fn.world) (disks_of l.world);
       later_seals : g.E.Envelope.faults l.fn.env ≤ g.E.Envelope.faults l.env;
       later_writes : g.K.Sink.faults l.fn.out ≤ g.K.Sink.faults l.out;
     }

@@ -1,7 +1,7 @@
 use Rattle.std.proofs.Common.{◌≡◌, drop, length, subst}
-use Rattle.replica.specs.Disks.{Sense}
+use Rattle.outside.specs.Disk.{DiskView}
 use Rattle.world.specs.Crashes.{IsOpenedOn, IsWhyNot}
-use Rattle.world.specs.Lines.{Tags}
+use Rattle.outside.specs.Envelope.{EnvelopeView}
 use Rattle.world.specs.Worlds.{disks_of}
 use Rattle.aranyad.proofs.Followings.{names_fit}
 use Rattle.aranyad.proofs.Goings.{opened_goes, unopened_goes}
@@ -14,17 +14,17 @@ open_world-requires-clause-disks g c = names_fit c.requires.script.0 c.args.line
 
 pub end_stopped-requires : goal.end_stopped-requires
 end_stopped-requires g c =
-    let sense : Sense g.row.D.Denot = record { tells = g.D.Disk.tells; content = g.D.Disk.content; honest = g.D.Disk.honest } in
+    let view : DiskView g.row.D.Denot = g.D.Disk.seen in
     record {
-      plain = plain_opening sense g.E.Envelope.good c.requires.rules.0 c.args.digest.now c.args.names.now c.args.disks.items c.in-Err.stop (c.in-Err.ensures.opens c.requires.rules.0 c.requires.rules.1);
+      plain = plain_opening view g.E.Envelope.seen.good c.requires.rules.0 c.args.digest.now c.args.names.now c.args.disks.items c.in-Err.stop (c.in-Err.ensures.opens c.requires.rules.0 c.requires.rules.1);
     }
 
 pub returns-in-Err-clause-goes : goal.returns-in-Err-clause-goes
 returns-in-Err-clause-goes g c = λ policy rules told honest.
-    let sense : Sense g.row.D.Denot = record { tells = g.D.Disk.tells; content = g.D.Disk.content; honest = g.D.Disk.honest } in
-    let tags : Tags = record { good = g.E.Envelope.good; told = g.E.Envelope.tag_of } in
-    unopened_goes sense tags policy c.args.digest.now c.args.disks.items c.args.lines.now c.in-Err.stop c.in-Err.disks.items c.end_stopped.result _ _
-    (subst (λ ns. IsWhyNot sense g.E.Envelope.good policy c.args.digest.now ns c.args.disks.items c.in-Err.stop) c.requires.names (c.in-Err.ensures.opens policy rules))
+    let view : DiskView g.row.D.Denot = g.D.Disk.seen in
+    let tags : EnvelopeView = g.E.Envelope.seen in
+    unopened_goes view tags policy c.args.digest.now c.args.disks.items c.args.lines.now c.in-Err.stop c.in-Err.disks.items c.end_stopped.result _ _
+    (subst (λ ns. IsWhyNot view g.E.Envelope.seen.good policy c.args.digest.now ns c.args.disks.items c.in-Err.stop) c.requires.names (c.in-Err.ensures.opens policy rules))
     (record { whole = (c.in-Err.ensures.crash policy rules told honest).0; spare = subst (λ ns. drop (length ns) c.in-Err.disks.items ≡ drop (length ns) c.args.disks.items) c.requires.names c.in-Err.ensures.spare }) c.end_stopped.ensures.goes
 
 pub returns-in-Err-clause-cause : goal.returns-in-Err-clause-cause
@@ -32,25 +32,25 @@ returns-in-Err-clause-cause g c = unopened_halts g.D.Disk.faults c.args.disks.it
 
 pub run_lines-result-requires : goal.run_lines-result-requires
 run_lines-result-requires g c =
-    let sense : Sense g.row.D.Denot = record { tells = g.D.Disk.tells; content = g.D.Disk.content; honest = g.D.Disk.honest } in
+    let view : DiskView g.row.D.Denot = g.D.Disk.seen in
     record {
-      placed = world_follows sense g.E.Envelope.good c.requires.rules.0 c.args.digest.now c.requires.script.0 c.args.lines.now c.args.names.now c.args.disks.items c.in-Ok.world c.requires.script.1 c.requires.names
+      placed = world_follows view g.E.Envelope.seen.good c.requires.rules.0 c.args.digest.now c.requires.script.0 c.args.lines.now c.args.names.now c.args.disks.items c.in-Ok.world c.requires.script.1 c.requires.names
           (c.in-Ok.ensures.opens c.requires.rules.0 c.requires.rules.1);
       up = c.in-Ok.ensures.up;
     }
 
 pub returns-clause-goes : goal.returns-clause-goes
 returns-clause-goes g c = λ policy rules told honest.
-    let sense : Sense g.row.D.Denot = record { tells = g.D.Disk.tells; content = g.D.Disk.content; honest = g.D.Disk.honest } in
-    let tags : Tags = record { good = g.E.Envelope.good; told = g.E.Envelope.tag_of } in
+    let view : DiskView g.row.D.Denot = g.D.Disk.seen in
+    let tags : EnvelopeView = g.E.Envelope.seen in
     let crash = c.in-Ok.ensures.crash policy rules told honest in
-    opened_goes sense tags policy c.args.digest.now c.args.disks.items c.args.lines.now c.in-Ok.world c.run_lines-result.new.world c.into_disks.result.items c.run_lines-result.result _ _
-    (subst (λ ns. IsOpenedOn sense g.E.Envelope.good policy c.args.digest.now ns c.args.disks.items c.in-Ok.world) c.requires.names (c.in-Ok.ensures.opens policy rules))
+    opened_goes view tags policy c.args.digest.now c.args.disks.items c.args.lines.now c.in-Ok.world c.run_lines-result.new.world c.into_disks.result.items c.run_lines-result.result _ _
+    (subst (λ ns. IsOpenedOn view g.E.Envelope.seen.good policy c.args.digest.now ns c.args.disks.items c.in-Ok.world) c.requires.names (c.in-Ok.ensures.opens policy rules))
     crash.0 crash.1 c.into_disks.ensures (c.run_lines-result.ensures.goes crash.1)
 
 pub returns-clause-disks : goal.returns-clause-disks
 returns-clause-disks g c =
-    later_from_opening g.D.Disk.faults g.D.Disk.honest c.args.disks.items (disks_of c.in-Ok.world) (disks_of c.run_lines-result.new.world) c.into_disks.result.items (c.in-Ok.ensures.disks, c.in-Ok.ensures.honest) c.run_lines-result.ensures.disks c.into_disks.ensures
+    later_from_opening g.D.Disk.faults g.D.Disk.seen.honest c.args.disks.items (disks_of c.in-Ok.world) (disks_of c.run_lines-result.new.world) c.into_disks.result.items (c.in-Ok.ensures.disks, c.in-Ok.ensures.honest) c.run_lines-result.ensures.disks c.into_disks.ensures
 
 pub returns-clause-cause : goal.returns-clause-cause
 returns-clause-cause g c =

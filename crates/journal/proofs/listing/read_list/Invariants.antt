@@ -8,12 +8,12 @@ use Rattle.journal.proofs.listing.read_list.Given as goal
 
 abbrev pub invariant-loop-commits : goal.invariant-loop-commits
 invariant-loop-commits g l = record {
-  within : IsTrue g.D.Disk.tells → l.span.end ≤ length (g.D.Disk.content l.disk).reads;
+  within : IsTrue g.D.Disk.seen.tells → l.span.end ≤ length (g.D.Disk.seen.content l.disk).reads;
   more : l.span.place < l.span.end;
   place : l.end.gate ≡ l.span.place;
-  list : IsTrue g.D.Disk.tells → (commits : List Commit) × Lists commits l.commits.items l.end (left (g.D.Disk.content l.disk).reads l.span) (left (g.D.Disk.content l.initial.disk).reads l.initial.span);
+  list : IsTrue g.D.Disk.seen.tells → (commits : List Commit) × Lists commits l.commits.items l.end (left (g.D.Disk.seen.content l.disk).reads l.span) (left (g.D.Disk.seen.content l.initial.disk).reads l.initial.span);
   listed : AreOf (outline_at l.end) l.commits.items;
-  disk : Keeps g.D.Disk.tells g.D.Disk.content g.D.Disk.honest g.D.Disk.faults l.initial.disk l.disk;
+  disk : Keeps g.D.Disk.seen.tells g.D.Disk.seen.content g.D.Disk.seen.honest g.D.Disk.faults l.initial.disk l.disk;
 }
 
 abbrev pub decreases-loop-commits : goal.decreases-loop-commits

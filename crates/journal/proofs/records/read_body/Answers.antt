@@ -6,7 +6,7 @@ use Rattle.journal.proofs.records.read_body.Goals as goal
 
 pub returns-then-rest-clause-read : goal.returns-then-rest-clause-read
 returns-then-rest-clause-read g c = λ told commit whole.
-    let reads = (g.D.Disk.content c.read_commit.new.disk).reads in
+    let reads = (g.D.Disk.seen.content c.read_commit.new.disk).reads in
     let rest = c.read_commit.new.span in
     let within : rest.end ≤ length reads = rw (c.read_commit.ensures.end, c.read_commit.ensures.disk.kept.reads told) (c.requires.within told) in
     let more : rest.place < rest.end = search rules in

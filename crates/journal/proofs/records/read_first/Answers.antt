@@ -5,6 +5,6 @@ use Rattle.journal.proofs.records.read_first.Goals as goal
 
 pub returns-clause-read : goal.returns-clause-read
 returns-clause-read g c = λ told.
-    let reads = (g.D.Disk.content c.open_body.new.disk).reads in
+    let reads = (g.D.Disk.seen.content c.open_body.new.disk).reads in
     rw (c.read_policy_body.ensures.disk.kept.reads told)
-    (record_reads c.read_policy_body.result policy_at (left (g.D.Disk.content c.args.disk.now).reads c.args.span.now) (left reads c.in_ok-body.body) (left reads c.open_body.new.span) (c.in_ok-body.ensures.read told) (c.read_policy_body.ensures.read told))
+    (record_reads c.read_policy_body.result policy_at (left (g.D.Disk.seen.content c.args.disk.now).reads c.args.span.now) (left reads c.in_ok-body.body) (left reads c.open_body.new.span) (c.in_ok-body.ensures.read told) (c.read_policy_body.ensures.read told))

@@ -8,12 +8,12 @@ use Rattle.journal.proofs.starting.start_fresh.Goals as goal
 
 pub returns-clause-any_moment : goal.returns-clause-any_moment
 returns-clause-any_moment g c = λ told honest entry starts.
-    let written : WritesRecord 0 (counted w32 (policy_body c.args.digest.now) ++ 0 ∷ []) (g.D.Disk.content c.args.disk.now) (g.D.Disk.content c.write_record.new.disk) c.write_record.result =
+    let written : WritesRecord 0 (counted w32 (policy_body c.args.digest.now) ++ 0 ∷ []) (g.D.Disk.seen.content c.args.disk.now) (g.D.Disk.seen.content c.write_record.new.disk) c.write_record.result =
     rw c.policy_record-record.ensures.bytes at (c.write_record.ensures.written told honest) in
     (start_long c.args.digest.now entry _ _ c.write_record.result c.policy_record-record.ensures.size (c.requires.inside told honest) starts written).0
 
 pub returns-clause-settled : goal.returns-clause-settled
 returns-clause-settled g c = λ told honest entry starts.
-    let written : WritesRecord 0 (counted w32 (policy_body c.args.digest.now) ++ 0 ∷ []) (g.D.Disk.content c.args.disk.now) (g.D.Disk.content c.write_record.new.disk) c.write_record.result =
+    let written : WritesRecord 0 (counted w32 (policy_body c.args.digest.now) ++ 0 ∷ []) (g.D.Disk.seen.content c.args.disk.now) (g.D.Disk.seen.content c.write_record.new.disk) c.write_record.result =
     rw c.policy_record-record.ensures.bytes at (c.write_record.ensures.written told honest) in
     (start_long c.args.digest.now entry _ _ c.write_record.result c.policy_record-record.ensures.size (c.requires.inside told honest) starts written).1

@@ -3,4 +3,4 @@ use Rattle.replica.proofs.committing.write.Goals as goal
 
 pub returns-in-Err-clause-writes : goal.returns-in-Err-clause-writes
 returns-in-Err-clause-writes g c =
-    writes_lacking (record { tells = g.D.Disk.tells; content = g.D.Disk.content; honest = g.D.Disk.honest }) g.D.Disk.faults g.D.Disk.last_step c.settled_journals_survive.ensures c.args.commit c.args.down.now c.args.journal.now
+    writes_lacking g.D.Disk.seen g.D.Disk.faults g.D.Disk.last_step c.settled_journals_survive.ensures c.args.commit c.args.down.now c.args.journal.now

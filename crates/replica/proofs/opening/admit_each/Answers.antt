@@ -10,7 +10,7 @@ use Rattle.replica.proofs.opening.admit_each.Goals as goal
 
 pub returns-then-not-branch-clause-adds : goal.returns-then-not-branch-clause-adds
 returns-then-not-branch-clause-adds g c =
-    let criteria : Criteria = record { policy = g.R.Runner.rules c.args.runner.now; digest = c.args.digest.now; good = g.E.Envelope.good } in
+    let criteria : Criteria = record { policy = g.R.Runner.rules c.args.runner.now; digest = c.args.digest.now; good = g.E.Envelope.seen.good } in
     let id = c.args.graph_id.now in
     let held = g.G.Graph.commands c.args.over.now.base.now ++ c.args.over.now.added.items in
     let mid = g.G.Graph.commands c.loop-command.over.base.now ++ c.loop-command.over.added.items in
@@ -25,7 +25,7 @@ returns-then-not-branch-clause-adds g c =
 
 pub loop-command-preserved : goal.loop-command-preserved
 loop-command-preserved g c =
-    let criteria : Criteria = record { policy = g.R.Runner.rules c.args.runner.now; digest = c.args.digest.now; good = g.E.Envelope.good } in
+    let criteria : Criteria = record { policy = g.R.Runner.rules c.args.runner.now; digest = c.args.digest.now; good = g.E.Envelope.seen.good } in
     let id = c.args.graph_id.now in
     let held = g.G.Graph.commands c.args.over.now.base.now ++ c.args.over.now.added.items in
     let mid = g.G.Graph.commands c.loop-command.over.base.now ++ c.loop-command.over.added.items in

@@ -7,6 +7,6 @@ abbrev pub invariant-loop-command : goal.invariant-loop-command
 invariant-loop-command g l = record {
   base : g.G.Graph.commands l.over.base.now ≡ g.G.Graph.commands l.fn.over.base.now;
   adds :
-      Adds (record { policy = g.R.Runner.rules l.runner; digest = l.digest; good = g.E.Envelope.good }) l.graph_id (g.G.Graph.commands l.fn.over.base.now ++ l.fn.over.added.items)
+      Adds (record { policy = g.R.Runner.rules l.runner; digest = l.digest; good = g.E.Envelope.seen.good }) l.graph_id (g.G.Graph.commands l.fn.over.base.now ++ l.fn.over.added.items)
       (take l.command-index l.commands) (g.G.Graph.commands l.over.base.now ++ l.over.added.items);
 }

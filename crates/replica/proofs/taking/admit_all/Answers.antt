@@ -8,7 +8,7 @@ use Rattle.replica.proofs.taking.admit_all.Goals as goal
 
 pub loop-command-preserved : goal.loop-command-preserved
 loop-command-preserved g c =
-    let criteria : Criteria = record { policy = g.R.Runner.rules c.args.runner.now; digest = c.args.digest.now; good = g.E.Envelope.good } in
+    let criteria : Criteria = record { policy = g.R.Runner.rules c.args.runner.now; digest = c.args.digest.now; good = g.E.Envelope.seen.good } in
     let below = g.G.Graph.commands c.args.over.now.base.now in
     let old : Tally = record { added = c.loop-command.over.added.items; repeats = c.loop-command.counts.repeats; refused = c.loop-command.counts.refused } in
     let new : Tally = record { added = c.admit_one.new.over.added.items; repeats = c.admit_one.new.counts.repeats; refused = c.admit_one.new.counts.refused } in

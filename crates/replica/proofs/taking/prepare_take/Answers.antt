@@ -5,7 +5,7 @@ use Rattle.replica.proofs.taking.prepare_take.Goals as goal
 
 pub returns-then-is_none : goal.returns-then-is_none
 returns-then-is_none g c =
-    let criteria : Criteria = record { policy = g.R.Runner.rules c.args.runner.now; digest = c.args.digest.now; good = g.E.Envelope.good } in
+    let criteria : Criteria = record { policy = g.R.Runner.rules c.args.runner.now; digest = c.args.digest.now; good = g.E.Envelope.seen.good } in
     let held = c.args.state.now.held in
     let counts = c.in_ok-repeats.field-0 in
     let added = c.admit_all.new.over.added.items in
@@ -22,7 +22,7 @@ returns-then-is_none g c =
 
 pub returns : goal.returns
 returns g c =
-    let criteria : Criteria = record { policy = g.R.Runner.rules c.args.runner.now; digest = c.args.digest.now; good = g.E.Envelope.good } in
+    let criteria : Criteria = record { policy = g.R.Runner.rules c.args.runner.now; digest = c.args.digest.now; good = g.E.Envelope.seen.good } in
     let held = c.args.state.now.held in
     let counts = c.in_ok-repeats.field-0 in
     let added = c.admit_all.new.over.added.items in

@@ -6,8 +6,8 @@ use Rattle.transaction.proofs.acting.run_body.Goals as goal
 
 pub returns-clause-runs : goal.returns-clause-runs
 returns-clause-runs g c =
-    let good = g.E.Envelope.good in
-    let told = g.E.Envelope.tag_of in
+    let good = g.E.Envelope.seen.good in
+    let told = g.E.Envelope.seen.told in
     let rules_of = g.R.Runner.rules in
     let held_of = g.G.Graph.commands in
     let basis = basis_of (rules_of c.args.runner.now) c.args.digest.now good told c.args.author.now (held_of c.args.graph.now) in

@@ -18,7 +18,7 @@ payload_of-requires g c = struct_short (g.R.Runner.rules c.args.runner.now) c.ar
 
 pub returns-then-len-gt4096-clause-publishes : goal.returns-then-len-gt4096-clause-publishes
 returns-then-len-gt4096-clause-publishes g c =
-    too_long (basis_of (g.R.Runner.rules c.args.runner.now) c.args.digest.now g.E.Envelope.good g.E.Envelope.tag_of c.args.author.now (g.G.Graph.commands c.args.graph.now)) c.args.draft.now
+    too_long (basis_of (g.R.Runner.rules c.args.runner.now) c.args.digest.now g.E.Envelope.seen.good g.E.Envelope.seen.told c.args.author.now (g.G.Graph.commands c.args.graph.now)) c.args.draft.now
     (g.F.FactBase.rows c.args.facts.now) c.args.number c.args.fields c.requires.declared c.len.result (c.len.ensures ∙ ap length c.in_ok-payload.ensures) c.if-len-gt4096.true c.args.steps.now
 
 pub seal_and_check-requires-clause-placed : goal.seal_and_check-requires-clause-placed
@@ -29,7 +29,7 @@ seal_and_check-requires-clause-placed g c =
 
 pub returns-in-Some-clause-publishes : goal.returns-in-Some-clause-publishes
 returns-in-Some-clause-publishes g c =
-    refused (basis_of (g.R.Runner.rules c.args.runner.now) c.args.digest.now g.E.Envelope.good g.E.Envelope.tag_of c.args.author.now (g.G.Graph.commands c.args.graph.now)) c.args.draft.now
+    refused (basis_of (g.R.Runner.rules c.args.runner.now) c.args.digest.now g.E.Envelope.seen.good g.E.Envelope.seen.told c.args.author.now (g.G.Graph.commands c.args.graph.now)) c.args.draft.now
     (g.F.FactBase.rows c.args.facts.now) c.args.number c.args.fields c.requires.declared c.len.result (c.len.ensures ∙ ap length c.in_ok-payload.ensures) c.if-len-gt4096.false
     c.declared_command-declared.result.name.now (kind_seen c.declared_command-declared.result.kind)
     (ap (λ p. declared_at p c.args.number) (sym c.policy.ensures.policy) ∙ c.declared_command-declared.ensures) c.in-Some.why
@@ -38,7 +38,7 @@ returns-in-Some-clause-publishes g c =
 
 pub returns-in-None-clause-publishes : goal.returns-in-None-clause-publishes
 returns-in-None-clause-publishes g c =
-    all_published (basis_of (g.R.Runner.rules c.args.runner.now) c.args.digest.now g.E.Envelope.good g.E.Envelope.tag_of c.args.author.now (g.G.Graph.commands c.args.graph.now)) c.args.draft.now
+    all_published (basis_of (g.R.Runner.rules c.args.runner.now) c.args.digest.now g.E.Envelope.seen.good g.E.Envelope.seen.told c.args.author.now (g.G.Graph.commands c.args.graph.now)) c.args.draft.now
     (g.F.FactBase.rows c.args.facts.now) c.args.number c.args.fields c.requires.declared c.len.result (c.len.ensures ∙ ap length c.in_ok-payload.ensures) c.if-len-gt4096.false
     c.declared_command-declared.result.name.now (kind_seen c.declared_command-declared.result.kind)
     (ap (λ p. declared_at p c.args.number) (sym c.policy.ensures.policy) ∙ c.declared_command-declared.ensures) c.open.new.draft

@@ -11,50 +11,50 @@ use Rattle.world.proofs.session.session.Goals as goal
 
 pub returns-in-Err : goal.returns-in-Err
 returns-in-Err g c = record {
-  session = unasked (record { tells = g.D.Disk.tells; content = g.D.Disk.content; honest = g.D.Disk.honest }) g.D.Disk.faults (record { good = g.E.Envelope.good; told = g.E.Envelope.tag_of }) c.args.a.now c.args.b.now c.args.replicas.now.items c.as_slice-before.result.now c.in-Err.why c.as_slice-before.ensures.value c.in-Err.ensures.reply;
-  weathers = unasked_weathers (record { tells = g.D.Disk.tells; content = g.D.Disk.content; honest = g.D.Disk.honest }) g.D.Disk.faults (record { good = g.E.Envelope.good; told = g.E.Envelope.tag_of }) c.args.a.now c.args.b.now c.args.replicas.now.items c.as_slice-before.result.now c.in-Err.why c.requires.up c.as_slice-before.ensures.value c.in-Err.ensures.reply;
+  session = unasked g.D.Disk.seen g.D.Disk.faults g.E.Envelope.seen c.args.a.now c.args.b.now c.args.replicas.now.items c.as_slice-before.result.now c.in-Err.why c.as_slice-before.ensures.value c.in-Err.ensures.reply;
+  weathers = unasked_weathers g.D.Disk.seen g.D.Disk.faults g.E.Envelope.seen c.args.a.now c.args.b.now c.args.replicas.now.items c.as_slice-before.result.now c.in-Err.why c.requires.up c.as_slice-before.ensures.value c.in-Err.ensures.reply;
 }
 
 pub rounds-init : goal.rounds-init
-rounds-init g c = starts (record { tells = g.D.Disk.tells; content = g.D.Disk.content; honest = g.D.Disk.honest }) g.D.Disk.faults (record { good = g.E.Envelope.good; told = g.E.Envelope.tag_of }) c.args.a.now c.args.b.now c.args.replicas.now.items c.as_slice-before.result.now c.in-Ok.request c.new-sum.result c.as_slice-before.ensures.value c.requires.up c.in-Ok.ensures.reply c.new-sum.ensures c.requires.a c.requires.b
+rounds-init g c = starts g.D.Disk.seen g.D.Disk.faults g.E.Envelope.seen c.args.a.now c.args.b.now c.args.replicas.now.items c.as_slice-before.result.now c.in-Ok.request c.new-sum.result c.as_slice-before.ensures.value c.requires.up c.in-Ok.ensures.reply c.new-sum.ensures c.requires.a c.requires.b
 
 pub returns-in-Err-round : goal.returns-in-Err-round
 returns-in-Err-round g c = record {
-  session = refused_round (record { tells = g.D.Disk.tells; content = g.D.Disk.content; honest = g.D.Disk.honest }) g.D.Disk.faults (record { good = g.E.Envelope.good; told = g.E.Envelope.tag_of }) c.args.a.now c.args.b.now c.args.replicas.now.items c.rounds.replicas.items c.rounds.request c.rounds.sum c.rounds.invariant c.as_slice-bytes.result.now c.round.new.replicas.items c.in-Err-round.why c.as_slice-bytes.ensures c.in-Err-round.ensures.round;
-  weathers = refused_weathers (record { tells = g.D.Disk.tells; content = g.D.Disk.content; honest = g.D.Disk.honest }) g.D.Disk.faults (record { good = g.E.Envelope.good; told = g.E.Envelope.tag_of }) c.args.a.now c.args.b.now c.args.replicas.now.items c.rounds.replicas.items c.rounds.request c.rounds.sum c.rounds.invariant c.as_slice-bytes.result.now c.round.new.replicas.items c.in-Err-round.why c.requires.up c.as_slice-bytes.ensures c.in-Err-round.ensures.round;
+  session = refused_round g.D.Disk.seen g.D.Disk.faults g.E.Envelope.seen c.args.a.now c.args.b.now c.args.replicas.now.items c.rounds.replicas.items c.rounds.request c.rounds.sum c.rounds.invariant c.as_slice-bytes.result.now c.round.new.replicas.items c.in-Err-round.why c.as_slice-bytes.ensures c.in-Err-round.ensures.round;
+  weathers = refused_weathers g.D.Disk.seen g.D.Disk.faults g.E.Envelope.seen c.args.a.now c.args.b.now c.args.replicas.now.items c.rounds.replicas.items c.rounds.request c.rounds.sum c.rounds.invariant c.as_slice-bytes.result.now c.round.new.replicas.items c.in-Err-round.why c.requires.up c.as_slice-bytes.ensures c.in-Err-round.ensures.round;
 }
 
 pub add-requires-clause-added : goal.add-requires-clause-added
-add-requires-clause-added g c = (small_sums (record { tells = g.D.Disk.tells; content = g.D.Disk.content; honest = g.D.Disk.honest }) g.D.Disk.faults (record { good = g.E.Envelope.good; told = g.E.Envelope.tag_of }) c.args.a.now c.args.b.now c.args.replicas.now.items c.rounds.replicas.items c.rounds.request c.rounds.sum c.rounds.invariant c.as_slice-bytes.result.now c.round.new.replicas.items c.in-Ok-round.both.0 (Ok c.in-Ok-round.both.1) c.as_slice-bytes.ensures c.in-Ok-round.ensures.round).added
+add-requires-clause-added g c = (small_sums g.D.Disk.seen g.D.Disk.faults g.E.Envelope.seen c.args.a.now c.args.b.now c.args.replicas.now.items c.rounds.replicas.items c.rounds.request c.rounds.sum c.rounds.invariant c.as_slice-bytes.result.now c.round.new.replicas.items c.in-Ok-round.both.0 (Ok c.in-Ok-round.both.1) c.as_slice-bytes.ensures c.in-Ok-round.ensures.round).added
 
 pub add-requires-clause-repeats : goal.add-requires-clause-repeats
-add-requires-clause-repeats g c = (small_sums (record { tells = g.D.Disk.tells; content = g.D.Disk.content; honest = g.D.Disk.honest }) g.D.Disk.faults (record { good = g.E.Envelope.good; told = g.E.Envelope.tag_of }) c.args.a.now c.args.b.now c.args.replicas.now.items c.rounds.replicas.items c.rounds.request c.rounds.sum c.rounds.invariant c.as_slice-bytes.result.now c.round.new.replicas.items c.in-Ok-round.both.0 (Ok c.in-Ok-round.both.1) c.as_slice-bytes.ensures c.in-Ok-round.ensures.round).repeats
+add-requires-clause-repeats g c = (small_sums g.D.Disk.seen g.D.Disk.faults g.E.Envelope.seen c.args.a.now c.args.b.now c.args.replicas.now.items c.rounds.replicas.items c.rounds.request c.rounds.sum c.rounds.invariant c.as_slice-bytes.result.now c.round.new.replicas.items c.in-Ok-round.both.0 (Ok c.in-Ok-round.both.1) c.as_slice-bytes.ensures c.in-Ok-round.ensures.round).repeats
 
 pub returns-in_err-add : goal.returns-in_err-add
 returns-in_err-add g c =
     let p = err_from_is_err_and c.from_residual.result c.from_residual.ensures.1 in
     let is = p.1 ∙ ap Err p.2 in
     record {
-      session = subst (λ r. RunsSession (record { good = g.E.Envelope.good; told = g.E.Envelope.tag_of }) c.args.a.now c.args.b.now c.args.replicas.now.items r c.round.new.replicas.items) (sym is)
-          (unsummed (record { tells = g.D.Disk.tells; content = g.D.Disk.content; honest = g.D.Disk.honest }) g.D.Disk.faults (record { good = g.E.Envelope.good; told = g.E.Envelope.tag_of }) c.args.a.now c.args.b.now c.args.replicas.now.items c.rounds.replicas.items c.rounds.request c.rounds.sum c.rounds.invariant c.as_slice-bytes.result.now c.round.new.replicas.items c.in-Ok-round.both.0 (Ok c.in-Ok-round.both.1) c.as_slice-bytes.ensures c.in-Ok-round.ensures.round);
-      weathers = subst (λ r. Weathers (record { tells = g.D.Disk.tells; content = g.D.Disk.content; honest = g.D.Disk.honest }) g.E.Envelope.good g.D.Disk.faults {T = Sum} ⊥ (FrontOf (RunsSync (record { good = g.E.Envelope.good; told = g.E.Envelope.tag_of }) c.args.a.now c.args.b.now) (Came (record { good = g.E.Envelope.good; told = g.E.Envelope.tag_of }) c.args.a.now c.args.b.now) c.args.replicas.now.items) c.args.replicas.now.items c.args.a.now r c.round.new.replicas.items) (sym is)
-          (unsummed_weathers (record { tells = g.D.Disk.tells; content = g.D.Disk.content; honest = g.D.Disk.honest }) g.D.Disk.faults (record { good = g.E.Envelope.good; told = g.E.Envelope.tag_of }) c.args.a.now c.args.b.now c.args.replicas.now.items c.rounds.replicas.items c.rounds.request c.rounds.sum c.rounds.invariant c.as_slice-bytes.result.now c.round.new.replicas.items c.in-Ok-round.both.0 (Ok c.in-Ok-round.both.1) c.as_slice-bytes.ensures c.in-Ok-round.ensures.round);
+      session = subst (λ r. RunsSession g.E.Envelope.seen c.args.a.now c.args.b.now c.args.replicas.now.items r c.round.new.replicas.items) (sym is)
+          (unsummed g.D.Disk.seen g.D.Disk.faults g.E.Envelope.seen c.args.a.now c.args.b.now c.args.replicas.now.items c.rounds.replicas.items c.rounds.request c.rounds.sum c.rounds.invariant c.as_slice-bytes.result.now c.round.new.replicas.items c.in-Ok-round.both.0 (Ok c.in-Ok-round.both.1) c.as_slice-bytes.ensures c.in-Ok-round.ensures.round);
+      weathers = subst (λ r. Weathers g.D.Disk.seen g.E.Envelope.seen.good g.D.Disk.faults {T = Sum} ⊥ (FrontOf (RunsSync g.E.Envelope.seen c.args.a.now c.args.b.now) (Came g.E.Envelope.seen c.args.a.now c.args.b.now) c.args.replicas.now.items) c.args.replicas.now.items c.args.a.now r c.round.new.replicas.items) (sym is)
+          (unsummed_weathers g.D.Disk.seen g.D.Disk.faults g.E.Envelope.seen c.args.a.now c.args.b.now c.args.replicas.now.items c.rounds.replicas.items c.rounds.request c.rounds.sum c.rounds.invariant c.as_slice-bytes.result.now c.round.new.replicas.items c.in-Ok-round.both.0 (Ok c.in-Ok-round.both.1) c.as_slice-bytes.ensures c.in-Ok-round.ensures.round);
     }
 
 pub rounds-smaller : goal.rounds-smaller
 rounds-smaller g c =
-    let on = goes_on (record { tells = g.D.Disk.tells; content = g.D.Disk.content; honest = g.D.Disk.honest }) g.D.Disk.faults (record { good = g.E.Envelope.good; told = g.E.Envelope.tag_of }) c.args.a.now c.args.b.now c.args.replicas.now.items c.rounds.replicas.items c.rounds.request c.rounds.sum c.rounds.invariant c.as_slice-bytes.result.now c.in-Some.next c.round.new.replicas.items c.add.new.self c.in-Ok-round.both.0 c.in-Ok-round.both.1
+    let on = goes_on g.D.Disk.seen g.D.Disk.faults g.E.Envelope.seen c.args.a.now c.args.b.now c.args.replicas.now.items c.rounds.replicas.items c.rounds.request c.rounds.sum c.rounds.invariant c.as_slice-bytes.result.now c.in-Some.next c.round.new.replicas.items c.add.new.self c.in-Ok-round.both.0 c.in-Ok-round.both.1
     c.requests_are_unambiguous.ensures c.responses_are_unambiguous.ensures c.as_slice-bytes.ensures c.in-Ok-round.ensures.round c.in-Some.is c.in_ok-add.ensures in
     omega (arith, on.meets_more, on.most)
 
 pub rounds-preserved : goal.rounds-preserved
 rounds-preserved g c =
-    let on = goes_on (record { tells = g.D.Disk.tells; content = g.D.Disk.content; honest = g.D.Disk.honest }) g.D.Disk.faults (record { good = g.E.Envelope.good; told = g.E.Envelope.tag_of }) c.args.a.now c.args.b.now c.args.replicas.now.items c.rounds.replicas.items c.rounds.request c.rounds.sum c.rounds.invariant c.as_slice-bytes.result.now c.in-Some.next c.round.new.replicas.items c.add.new.self c.in-Ok-round.both.0 c.in-Ok-round.both.1
+    let on = goes_on g.D.Disk.seen g.D.Disk.faults g.E.Envelope.seen c.args.a.now c.args.b.now c.args.replicas.now.items c.rounds.replicas.items c.rounds.request c.rounds.sum c.rounds.invariant c.as_slice-bytes.result.now c.in-Some.next c.round.new.replicas.items c.add.new.self c.in-Ok-round.both.0 c.in-Ok-round.both.1
     c.requests_are_unambiguous.ensures c.responses_are_unambiguous.ensures c.as_slice-bytes.ensures c.in-Ok-round.ensures.round c.in-Some.is c.in_ok-add.ensures in
     on.come_on
 
 pub returns-in-None : goal.returns-in-None
 returns-in-None g c = record {
-  session = finishes (record { tells = g.D.Disk.tells; content = g.D.Disk.content; honest = g.D.Disk.honest }) g.D.Disk.faults (record { good = g.E.Envelope.good; told = g.E.Envelope.tag_of }) c.args.a.now c.args.b.now c.args.replicas.now.items c.rounds.replicas.items c.rounds.request c.rounds.sum c.rounds.invariant c.as_slice-bytes.result.now c.round.new.replicas.items c.add.new.self c.in-Ok-round.both.0 c.in-Ok-round.both.1 c.as_slice-bytes.ensures c.in-Ok-round.ensures.round c.in-None.is c.in_ok-add.ensures;
-  weathers = finished_weathers (record { tells = g.D.Disk.tells; content = g.D.Disk.content; honest = g.D.Disk.honest }) g.D.Disk.faults (record { good = g.E.Envelope.good; told = g.E.Envelope.tag_of }) c.args.a.now c.args.b.now c.args.replicas.now.items c.rounds.replicas.items c.rounds.request c.rounds.sum c.rounds.invariant c.as_slice-bytes.result.now c.round.new.replicas.items c.add.new.self c.in-Ok-round.both.0 (Ok c.in-Ok-round.both.1) c.as_slice-bytes.ensures c.in-Ok-round.ensures.round;
+  session = finishes g.D.Disk.seen g.D.Disk.faults g.E.Envelope.seen c.args.a.now c.args.b.now c.args.replicas.now.items c.rounds.replicas.items c.rounds.request c.rounds.sum c.rounds.invariant c.as_slice-bytes.result.now c.round.new.replicas.items c.add.new.self c.in-Ok-round.both.0 c.in-Ok-round.both.1 c.as_slice-bytes.ensures c.in-Ok-round.ensures.round c.in-None.is c.in_ok-add.ensures;
+  weathers = finished_weathers g.D.Disk.seen g.D.Disk.faults g.E.Envelope.seen c.args.a.now c.args.b.now c.args.replicas.now.items c.rounds.replicas.items c.rounds.request c.rounds.sum c.rounds.invariant c.as_slice-bytes.result.now c.round.new.replicas.items c.add.new.self c.in-Ok-round.both.0 (Ok c.in-Ok-round.both.1) c.as_slice-bytes.ensures c.in-Ok-round.ensures.round;
 }

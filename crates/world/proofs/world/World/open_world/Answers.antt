@@ -3,12 +3,12 @@ use Rattle.world.proofs.world.World.open_world.Goals as goal
 
 pub returns-in-Ok-clause-opens : goal.returns-in-Ok-clause-opens
 returns-in-Ok-clause-opens g c = λ policy each.
-    opened_as (record { tells = g.D.Disk.tells; content = g.D.Disk.content; honest = g.D.Disk.honest }) g.E.Envelope.good g.D.Disk.faults policy c.args.digest.now c.args.names.now c.args.disks.items
+    opened_as g.D.Disk.seen g.E.Envelope.seen.good g.D.Disk.faults policy c.args.digest.now c.args.names.now c.args.disks.items
     c.in-Ok.replicas.items c.in-Ok.spare.items c.new.result.items (c.in-Ok.ensures.opens policy each) c.in-Ok.ensures.counts c.new.ensures.items
 
 pub returns-in-Ok-clause-crash : goal.returns-in-Ok-clause-crash
 returns-in-Ok-clause-crash g c = λ policy each.
-    opened_safe (record { tells = g.D.Disk.tells; content = g.D.Disk.content; honest = g.D.Disk.honest }) g.E.Envelope.good g.D.Disk.faults policy c.args.digest.now c.args.names.now c.args.disks.items
+    opened_safe g.D.Disk.seen g.E.Envelope.seen.good g.D.Disk.faults policy c.args.digest.now c.args.names.now c.args.disks.items
     c.in-Ok.replicas.items c.in-Ok.spare.items (c.in-Ok.ensures.opens policy each)
 
 pub returns-in-Err-clause-opens : goal.returns-in-Err-clause-opens

@@ -11,14 +11,14 @@ use Rattle.world.proofs.world.World.run_changing.Goals as goal
 pub invariant_of-self : goal.invariant_of-self
 invariant_of-self g c =
     subst (λ n. n + length c.self.inside.spare.items ≤ vec_capacity c.self.inside.spare)
-    (sym (as_many (record { good = g.E.Envelope.good; told = g.E.Envelope.tag_of }) c.as_slice.result.now (record { tells = g.D.Disk.tells; content = g.D.Disk.content; honest = g.D.Disk.honest }) g.D.Disk.faults (g.E.Envelope.faults c.args.env.now) (g.E.Envelope.faults c.changing_line.new.env) c.self.inside.replicas.items c.changing_line.result c.changing_line.new.replicas.items
-    (Acts c.args.line.now × Rose (g.E.Envelope.faults c.args.env.now) (g.E.Envelope.faults c.changing_line.new.env)) (changed_name c.args.line.now) (RefusesJournal (record { tells = g.D.Disk.tells; content = g.D.Disk.content; honest = g.D.Disk.honest }) g.E.Envelope.good c.self.inside.replicas.items c.args.line.now)
-    (FrontOf (RunsIn (record { good = g.E.Envelope.good; told = g.E.Envelope.tag_of }) c.as_slice.result.now c.args.line.now) (SomeOf (record { good = g.E.Envelope.good; told = g.E.Envelope.tag_of }) c.args.line.now) c.self.inside.replicas.items) c.changing_line.ensures.fits.disks))
+    (sym (as_many g.E.Envelope.seen c.as_slice.result.now g.D.Disk.seen g.D.Disk.faults (g.E.Envelope.faults c.args.env.now) (g.E.Envelope.faults c.changing_line.new.env) c.self.inside.replicas.items c.changing_line.result c.changing_line.new.replicas.items
+    (Acts c.args.line.now × Rose (g.E.Envelope.faults c.args.env.now) (g.E.Envelope.faults c.changing_line.new.env)) (changed_name c.args.line.now) (RefusesJournal g.D.Disk.seen g.E.Envelope.seen.good c.self.inside.replicas.items c.args.line.now)
+    (FrontOf (RunsIn g.E.Envelope.seen c.as_slice.result.now c.args.line.now) (SomeOf g.E.Envelope.seen c.args.line.now) c.self.inside.replicas.items) c.changing_line.ensures.fits.disks))
     c.self.invariant
 
 pub returns-clause-runs : goal.returns-clause-runs
 returns-clause-runs g c =
-    changed_by (record { good = g.E.Envelope.good; told = g.E.Envelope.tag_of }) (record { tells = g.D.Disk.tells; content = g.D.Disk.content; honest = g.D.Disk.honest }) g.D.Disk.faults (g.E.Envelope.faults c.args.env.now) (g.E.Envelope.faults c.changing_line.new.env) c.args.line.now c.self.inside.replicas.items c.changing_line.new.replicas.items c.self.inside.messages.items c.as_slice.result.now c.self.inside.spare.items
+    changed_by g.E.Envelope.seen g.D.Disk.seen g.D.Disk.faults (g.E.Envelope.faults c.args.env.now) (g.E.Envelope.faults c.changing_line.new.env) c.args.line.now c.self.inside.replicas.items c.changing_line.new.replicas.items c.self.inside.messages.items c.as_slice.result.now c.self.inside.spare.items
     c.changing_line.result c.args.self.now (sym c.self.view_is) c.as_slice.ensures.value c.requires.changing c.changing_line.ensures.fits
 
 pub changing_line-requires-clause-place : goal.changing_line-requires-clause-place

@@ -18,11 +18,11 @@ said_line-said-requires-clause-room g c =
 pub returns-in-Ok : goal.returns-in-Ok
 returns-in-Ok g c = record {
   runs = λ tags before now.
-      making_on tags (record { tells = g.D.Disk.tells; content = g.D.Disk.content; honest = g.D.Disk.honest }) g.D.Disk.faults before now c.args.self.now c.args.line.now c.in-Ok.said c.keep.result c.keep.new.self c.requires.making c.requires.up
+      making_on tags g.D.Disk.seen g.D.Disk.faults before now c.args.self.now c.args.line.now c.in-Ok.said c.keep.result c.keep.new.self c.requires.making c.requires.up
       (subst (λ ms. Making (SaysIn (site_of c.args.self.now.replicas ms) c.args.line.now) (Ok c.in-Ok.said)) (c.as_slice-2.ensures.value ∙ ap (λ s. s.messages) c.self.view_is)
       (subst (λ rs. Making (SaysIn (site_of rs c.as_slice-2.result.now) c.args.line.now) (Ok c.in-Ok.said)) (c.as_slice.ensures.value ∙ ap (λ s. s.replicas) c.self.view_is) c.in-Ok.ensures))
       c.keep.ensures;
 }
 
 pub returns-in-Err : goal.returns-in-Err
-returns-in-Err g c = record { runs = λ tags before now. lacks_on tags (record { tells = g.D.Disk.tells; content = g.D.Disk.content; honest = g.D.Disk.honest }) g.D.Disk.faults before now c.args.self.now c.args.line.now c.in-Err.stop (making_quiet c.args.line.now c.requires.making) c.requires.up c.in-Err.ensures }
+returns-in-Err g c = record { runs = λ tags before now. lacks_on tags g.D.Disk.seen g.D.Disk.faults before now c.args.self.now c.args.line.now c.in-Err.stop (making_quiet c.args.line.now c.requires.making) c.requires.up c.in-Err.ensures }

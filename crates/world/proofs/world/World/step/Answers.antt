@@ -13,25 +13,25 @@ pub returns-clause-up : goal.returns-clause-up
 returns-clause-up g c = c.run_into.ensures.steps.passes.disks.up
 
 pub returns-clause-disks : goal.returns-clause-disks
-returns-clause-disks g c = step_disks (record { tells = g.D.Disk.tells; content = g.D.Disk.content; honest = g.D.Disk.honest }) g.E.Envelope.good g.D.Disk.faults (g.E.Envelope.faults c.args.env.now) (g.E.Envelope.faults c.run_into.new.env) c.args.self.now c.run_into.new.self c.args.line.now c.run_into.ensures.steps.passes.spare (IsFront (record { good = g.E.Envelope.good; told = g.E.Envelope.tag_of }) c.args.self.now c.args.line.now) c.run_into.result c.run_into.ensures.steps.passes.disks
+returns-clause-disks g c = step_disks g.D.Disk.seen g.E.Envelope.seen.good g.D.Disk.faults (g.E.Envelope.faults c.args.env.now) (g.E.Envelope.faults c.run_into.new.env) c.args.self.now c.run_into.new.self c.args.line.now c.run_into.ensures.steps.passes.spare (IsFront g.E.Envelope.seen c.args.self.now c.args.line.now) c.run_into.result c.run_into.ensures.steps.passes.disks
 
 pub returns-clause-honest : goal.returns-clause-honest
-returns-clause-honest g c = step_honest (record { tells = g.D.Disk.tells; content = g.D.Disk.content; honest = g.D.Disk.honest }) g.E.Envelope.good g.D.Disk.faults (g.E.Envelope.faults c.args.env.now) (g.E.Envelope.faults c.run_into.new.env) c.args.self.now c.run_into.new.self c.args.line.now c.run_into.ensures.steps.passes.spare (IsFront (record { good = g.E.Envelope.good; told = g.E.Envelope.tag_of }) c.args.self.now c.args.line.now) c.run_into.result c.run_into.ensures.steps.passes.disks
+returns-clause-honest g c = step_honest g.D.Disk.seen g.E.Envelope.seen.good g.D.Disk.faults (g.E.Envelope.faults c.args.env.now) (g.E.Envelope.faults c.run_into.new.env) c.args.self.now c.run_into.new.self c.args.line.now c.run_into.ensures.steps.passes.spare (IsFront g.E.Envelope.seen c.args.self.now c.args.line.now) c.run_into.result c.run_into.ensures.steps.passes.disks
 
 pub returns-clause-cause : goal.returns-clause-cause
-returns-clause-cause g c = step_cause (record { tells = g.D.Disk.tells; content = g.D.Disk.content; honest = g.D.Disk.honest }) g.E.Envelope.good g.D.Disk.faults (g.E.Envelope.faults c.args.env.now) (g.E.Envelope.faults c.run_into.new.env) c.args.self.now c.run_into.new.self c.args.line.now c.run_into.ensures.steps.passes.spare (IsFront (record { good = g.E.Envelope.good; told = g.E.Envelope.tag_of }) c.args.self.now c.args.line.now) c.run_into.result c.run_into.ensures.steps.passes.disks
+returns-clause-cause g c = step_cause g.D.Disk.seen g.E.Envelope.seen.good g.D.Disk.faults (g.E.Envelope.faults c.args.env.now) (g.E.Envelope.faults c.run_into.new.env) c.args.self.now c.run_into.new.self c.args.line.now c.run_into.ensures.steps.passes.spare (IsFront g.E.Envelope.seen c.args.self.now c.args.line.now) c.run_into.result c.run_into.ensures.steps.passes.disks
 
 pub returns-clause-own : goal.returns-clause-own
-returns-clause-own g c = step_own (record { tells = g.D.Disk.tells; content = g.D.Disk.content; honest = g.D.Disk.honest }) g.E.Envelope.good g.D.Disk.faults (g.E.Envelope.faults c.args.env.now) (g.E.Envelope.faults c.run_into.new.env) c.args.self.now c.run_into.new.self c.args.line.now c.run_into.ensures.steps.passes.spare (IsFront (record { good = g.E.Envelope.good; told = g.E.Envelope.tag_of }) c.args.self.now c.args.line.now) c.run_into.result c.run_into.ensures.steps.passes.disks
+returns-clause-own g c = step_own g.D.Disk.seen g.E.Envelope.seen.good g.D.Disk.faults (g.E.Envelope.faults c.args.env.now) (g.E.Envelope.faults c.run_into.new.env) c.args.self.now c.run_into.new.self c.args.line.now c.run_into.ensures.steps.passes.spare (IsFront g.E.Envelope.seen c.args.self.now c.args.line.now) c.run_into.result c.run_into.ensures.steps.passes.disks
 
 pub returns-clause-seals : goal.returns-clause-seals
-returns-clause-seals g c = step_seals (record { tells = g.D.Disk.tells; content = g.D.Disk.content; honest = g.D.Disk.honest }) g.E.Envelope.good g.D.Disk.faults (g.E.Envelope.faults c.args.env.now) (g.E.Envelope.faults c.run_into.new.env) c.args.self.now c.run_into.new.self c.args.line.now c.run_into.ensures.steps.passes.spare (IsFront (record { good = g.E.Envelope.good; told = g.E.Envelope.tag_of }) c.args.self.now c.args.line.now) c.run_into.result c.run_into.ensures.steps.passes.disks
+returns-clause-seals g c = step_seals g.D.Disk.seen g.E.Envelope.seen.good g.D.Disk.faults (g.E.Envelope.faults c.args.env.now) (g.E.Envelope.faults c.run_into.new.env) c.args.self.now c.run_into.new.self c.args.line.now c.run_into.ensures.steps.passes.spare (IsFront g.E.Envelope.seen c.args.self.now c.args.line.now) c.run_into.result c.run_into.ensures.steps.passes.disks
 
 pub returns-clause-journals : goal.returns-clause-journals
-returns-clause-journals g c = step_journals (record { tells = g.D.Disk.tells; content = g.D.Disk.content; honest = g.D.Disk.honest }) g.E.Envelope.good g.D.Disk.faults (g.E.Envelope.faults c.args.env.now) (g.E.Envelope.faults c.run_into.new.env) c.args.self.now c.run_into.new.self c.args.line.now c.run_into.ensures.steps.passes.spare (IsFront (record { good = g.E.Envelope.good; told = g.E.Envelope.tag_of }) c.args.self.now c.args.line.now) c.run_into.result c.run_into.ensures.steps.passes.disks
+returns-clause-journals g c = step_journals g.D.Disk.seen g.E.Envelope.seen.good g.D.Disk.faults (g.E.Envelope.faults c.args.env.now) (g.E.Envelope.faults c.run_into.new.env) c.args.self.now c.run_into.new.self c.args.line.now c.run_into.ensures.steps.passes.spare (IsFront g.E.Envelope.seen c.args.self.now c.args.line.now) c.run_into.result c.run_into.ensures.steps.passes.disks
 
 pub returns-clause-names : goal.returns-clause-names
-returns-clause-names g c = names_stay g.D.Disk.faults g.D.Disk.honest c.args.self.now.replicas c.run_into.new.self.replicas c.run_into.ensures.steps.passes.disks.later
+returns-clause-names g c = names_stay g.D.Disk.faults g.D.Disk.seen.honest c.args.self.now.replicas c.run_into.new.self.replicas c.run_into.ensures.steps.passes.disks.later
 
 pub returns-clause-messages : goal.returns-clause-messages
 returns-clause-messages g c = c.run_into.ensures.steps.passes.counted
